@@ -1,0 +1,9 @@
+pub mod Forms
+pub mod Tokens
+pub mod Grammar
+pub mod Layout
+pub mod Words
+pub mod Refusals
+pub mod Core
+pub mod Values
+pub mod Meaning

@@ -1,0 +1,6 @@
+//! Commands: a library is read, lowered and run.
+#![tactic(auto)]
+
+mod refused;
+mod run;
+mod text;

@@ -1,0 +1,3 @@
+//! A program's run.
+
+pub(crate) mod value;
