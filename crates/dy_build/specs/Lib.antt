@@ -7,3 +7,6 @@ pub mod Refusals
 pub mod Core
 pub mod Values
 pub mod Meaning
+pub mod Machine
+pub mod Code
+pub mod Seen
