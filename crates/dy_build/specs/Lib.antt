@@ -10,3 +10,5 @@ pub mod Meaning
 pub mod Machine
 pub mod Code
 pub mod Seen
+pub mod View
+pub mod Endings

@@ -2,6 +2,8 @@
 
 pub(crate) mod builtin;
 pub(crate) mod code;
+pub(crate) mod execute;
 pub(crate) mod format;
 pub(crate) mod lower;
+pub(crate) mod machine;
 pub(crate) mod value;
