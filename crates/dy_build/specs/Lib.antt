@@ -1,6 +1,8 @@
 pub mod Forms
 pub mod Tokens
 pub mod Grammar
+pub mod Lexing
+pub mod Reading
 pub mod Layout
 pub mod Words
 pub mod Refusals

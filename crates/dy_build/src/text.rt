@@ -1,4 +1,7 @@
 //! The private reader of source texts.
 
 pub(crate) mod form;
+pub(crate) mod lexing;
+pub(crate) mod parsing;
+pub(crate) mod reading;
 pub(crate) mod token;
