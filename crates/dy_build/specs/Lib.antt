@@ -2,6 +2,7 @@ pub mod Forms
 pub mod Tokens
 pub mod Grammar
 pub mod Layout
+pub mod Seen
 pub mod Words
 pub mod Refusals
 pub mod Core
