@@ -4,6 +4,7 @@ pub mod Grammar
 pub mod Lexing
 pub mod Reading
 pub mod Layout
+pub mod Seen
 pub mod Words
 pub mod Refusals
 pub mod Core
@@ -14,3 +15,4 @@ pub mod Code
 pub mod Seen
 pub mod View
 pub mod Endings
+pub mod Results

@@ -2,7 +2,7 @@
 
 ghost use Rattle.std.specs.Prelude.{◌≡◌, ◌<◌, ◌≤◌, IfOk, length, option_copied};
 ghost use Rattle.dy_build.specs.Meaning.{formatted};
-ghost use Rattle.dy_build.specs.Seen.{seen_formatted, after_letter, next_number, seen_next};
+ghost use Rattle.dy_build.specs.Results.{seen_formatted, after_letter, next_number, seen_next};
 
 use crate::run::value::Value;
 use itoa::Buffer;
