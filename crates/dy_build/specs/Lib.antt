@@ -12,7 +12,6 @@ pub mod Values
 pub mod Meaning
 pub mod Machine
 pub mod Code
-pub mod Seen
 pub mod View
 pub mod Endings
 pub mod Results
