@@ -1,17 +1,16 @@
 -- A text is read as a LID file exactly where it is the text of one.
-use Rattle.std.proofs.Common.{◌≡◌, ℕ, suc, ◌+◌, ◌<◌, ◌≤◌, Bool, true, false, cond, not, eqb, ◌&&◌, ◌||◌, ◌⊎◌, List, [], ◌∷◌, ◌++◌, length, get_or, take, drop, Option, Some, None, Decides, refl, sym, ap, ◌∙◌, inl, inr, subst, append_assoc, add-one, length-append, arith}
+use Rattle.std.proofs.Common.{◌≡◌, ℕ, suc, ◌+◌, ◌<◌, ◌≤◌, Bool, true, false, cond, not, ◌&&◌, ◌||◌, ◌⊎◌, List, [], ◌∷◌, ◌++◌, length, get_or, take, drop, Option, Some, None, refl, sym, ap, ◌∙◌, inl, inr, append_assoc, length-append, arith}
 use Rattle.std.specs.Prelude.{codes, option_and_then, IfSome}
-use Rattle.std.specs.List.{list_all, before_first, after_first, position_or_len}
+use Rattle.std.specs.List.{position_or_len}
 use Rattle.std.proofs.Math.Numerals.{one-add}
-use Rattle.std.proofs.Math.Dec.{ltb}
-use Rattle.std.proofs.lemmas.Bool.{false≢true, cases_lt}
+use Rattle.std.proofs.lemmas.Bool.{cases_lt}
 use Rattle.std.proofs.lemmas.Bool.Decides.{Decides-eqb}
 use Rattle.std.proofs.lemmas.List.{append-nil, take_all, take_at, drop_at, drop_all}
 use Rattle.std.proofs.lemmas.List.Sums.{split_at_first, passes_at_first}
-use Rattle.std.proofs.lemmas.Option.{option_and_then_some, cond_some}
+use Rattle.std.proofs.lemmas.Option.{cond_some}
 use Rattle.std.proofs.lemmas.Slice.Eq.{bytes_eq-Decides}
 use Rattle.dy_build.specs.Layout.{is_same, is_whole, is_line_feed, is_name, is_file_name, Lid, lid_text, IsLid, line_of, lines_after, after_prefix, checked_lid, lid_of_lines, lid_of}
-use Rattle.dy_build.specs.Seen.{seen_parts, seen_lid}
+use Rattle.dy_build.specs.Parts.{seen_parts, seen_lid}
 use Rattle.dy_build.specs.declared.layout.lid.LidParts.{LidParts}
 use Rattle.dy_build.proofs.Prefixes.{after_prefix-some}
 use Rattle.dy_build.proofs.Names.{is_line, is_name-line, is_file_name-line, and_first, and_second}

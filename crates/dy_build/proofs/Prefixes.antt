@@ -5,8 +5,8 @@ use Rattle.std.specs.Prelude.{option_and_then, codes}
 use Rattle.std.specs.Cmp.Lexicographic.{pointwise}
 use Rattle.std.proofs.lemmas.Bool.{false≢true}
 use Rattle.std.proofs.lemmas.Bool.Decides.{nat_tests, eqb_tells}
-use Rattle.dy_build.specs.Layout.{is_same, is_whole, after_prefix, library_text, is_library_file, header_text, body_of}
-use Rattle.dy_build.specs.Seen.{seen_bytes}
+use Rattle.dy_build.specs.Layout.{is_same, is_whole, after_prefix, library_text}
+use Rattle.dy_build.specs.Parts.{seen_bytes}
 
 same_order : (a b : ℕ) → eqb a b ≡ eqb b a
 same_order a b = grind (arith, nat_tests)

@@ -1,5 +1,5 @@
 -- The files of a library, as this compiler takes them today (own).
-use Rattle.std.specs.Prelude.{◌≡◌, ℕ, ◌+◌, ◌≤◌, Bool, true, false, not, ◌&&◌, ◌||◌, ◌==◌, nat_eq, nat_le, ◌⊎◌, List, [], ◌∷◌, ◌++◌, length, Option, Some, None, IsTrue, codes, if◌then◌else◌, option_and_then}
+use Rattle.std.specs.Prelude.{ℕ, Bool, false, not, ◌&&◌, ◌||◌, ◌==◌, nat_eq, nat_le, List, [], ◌∷◌, ◌++◌, Option, Some, None, IsTrue, codes, if◌then◌else◌, option_and_then}
 use Rattle.std.specs.List.{list_any, list_all, before_first, after_first, ends_with}
 use Rattle.std.specs.Cmp.Lexicographic.{pointwise}
 

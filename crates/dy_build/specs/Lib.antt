@@ -4,9 +4,10 @@ pub mod Grammar
 pub mod Lexing
 pub mod Reading
 pub mod Layout
-pub mod Seen
+pub mod Parts
 pub mod Words
 pub mod Refusals
+pub mod Lines
 pub mod Core
 pub mod Values
 pub mod Meaning

@@ -5,3 +5,4 @@ mod layout;
 mod refused;
 mod run;
 mod text;
+mod words;

@@ -2,7 +2,7 @@
 
 ghost use Rattle.std.specs.Prelude.{◌≡◌, ◌||◌, [], ◌∷◌};
 ghost use Rattle.dy_build.specs.Layout.{is_same, after_prefix, library_text, is_library_file, header_text, body_of};
-ghost use Rattle.dy_build.specs.Seen.{seen_bytes};
+ghost use Rattle.dy_build.specs.Parts.{seen_bytes};
 
 use crate::layout::lines::after_prefix;
 

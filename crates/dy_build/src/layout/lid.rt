@@ -2,7 +2,7 @@
 
 ghost use Rattle.std.specs.Prelude.{◌≡◌, ℕ, List, Some, IfSome};
 ghost use Rattle.dy_build.specs.Layout.{Lid, IsLid, checked_lid, lid_of_lines, lid_of};
-ghost use Rattle.dy_build.specs.Seen.{seen_parts, seen_lid};
+ghost use Rattle.dy_build.specs.Parts.{seen_parts, seen_lid};
 
 use crate::layout::lines::{after_prefix, split_line};
 use crate::layout::name::{is_file_name, is_name};
@@ -19,7 +19,11 @@ pub(crate) struct LidParts<'a> {
 fn checked_parts<'a>(rest: &[u8], parts: LidParts<'a>) -> Option<LidParts<'a>>
     ensures { seen_lid result ≡ checked_lid rest.now (seen_parts parts.entry) }
 {
-    if rest.is_empty() && is_name(parts.library) && is_file_name(parts.first) && is_file_name(parts.second) {
+    if rest.is_empty()
+        && is_name(parts.library)
+        && is_file_name(parts.first)
+        && is_file_name(parts.second)
+    {
         Some(parts)
     } else {
         None
@@ -27,13 +31,25 @@ fn checked_parts<'a>(rest: &[u8], parts: LidParts<'a>) -> Option<LidParts<'a>>
 }
 
 /// What three lines say as those of a LID file.
-fn read_lines<'a>(first_line: &'a [u8], second_line: &'a [u8], third_line: &'a [u8], rest: &[u8]) -> Option<LidParts<'a>>
+fn read_lines<'a>(
+    first_line: &'a [u8],
+    second_line: &'a [u8],
+    third_line: &'a [u8],
+    rest: &[u8],
+) -> Option<LidParts<'a>>
     ensures { seen_lid result ≡ lid_of_lines first_line.now second_line.now third_line.now rest.now }
 {
     let library = after_prefix(first_line, b"library: ")?;
     let first = after_prefix(second_line, b"files: ")?;
     let second = after_prefix(third_line, b" ")?;
-    checked_parts(rest, LidParts { library, first, second })
+    checked_parts(
+        rest,
+        LidParts {
+            library,
+            first,
+            second,
+        },
+    )
 }
 
 /// What a text says as a LID file.
@@ -51,5 +67,4 @@ pub(crate) fn read_lid<'a>(text: &'a [u8]) -> Option<LidParts<'a>>
 pub(crate) fn lid_laws()
     ensures sound { (text : List ℕ) (lid : Lid) → lid_of text ≡ Some lid → IsLid text lid }
     ensures complete { (text : List ℕ) (lid : Lid) → IsLid text lid → lid_of text ≡ Some lid }
-{
-}
+{}

@@ -3,7 +3,7 @@
 ghost use Rattle.std.specs.Prelude.{◌≡◌, ◌<◌, length, IfOk, IfSome};
 ghost use Rattle.std.specs.List.{position};
 ghost use Rattle.dy_build.specs.Layout.{is_line_feed, begins_with_line_feed, with_line_feeds, line_of, lines_after, after_prefix};
-ghost use Rattle.dy_build.specs.Seen.{seen_bytes};
+ghost use Rattle.dy_build.specs.Parts.{seen_bytes};
 
 use std::alloc::{AllocError, Global};
 
