@@ -1,5 +1,6 @@
 -- Forms as core terms.
 use Rattle.std.specs.Prelude.{ℕ, List, [], ◌∷◌, map, codes}
+use Rattle.dy_base.specs.Folding.{folded}
 use Rattle.dy_base.specs.declared.ids.Ref.{Ref}
 use Rattle.dy_base.specs.declared.ids.GenericId.{GenericId}
 use Rattle.dy_base.specs.declared.ids.BindingId.{BindingId}
@@ -31,9 +32,10 @@ core_of (operation operator left right) = site (generic_of operator) (more (core
 abbrev pub form_core : FormTree → Core
 form_core (print value) = call (global format_out) (more (literal (Str (codes "%d\n"))) (more (core_of value) none))
 
+abbrev pub library_row : List ℕ → List ℕ → List Core → CoreLibrary
+library_row name uses tops = record { name = folded name; uses = uses; tops = tops }
+
 -- the library and what it uses, in load order
 abbrev pub program_of : List ℕ → List FormTree → List CoreLibrary
 program_of name forms =
-    record { name = codes "dylan"; uses = []; tops = [] }
-    ∷ record { name = codes "io"; uses = 0 ∷ []; tops = [] }
-    ∷ record { name = name; uses = 0 ∷ 1 ∷ []; tops = map form_core forms } ∷ []
+    library_row (codes "dylan") [] [] ∷ library_row (codes "io") (0 ∷ []) [] ∷ library_row name (0 ∷ 1 ∷ []) (map form_core forms) ∷ []

@@ -16,3 +16,4 @@ pub mod Code
 pub mod View
 pub mod Endings
 pub mod Results
+pub mod Outcome
