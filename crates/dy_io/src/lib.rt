@@ -1,10 +1,13 @@
 //! The outside: files and sinks, in memory and of the host.
 #![tactic(auto)]
 
+mod calls;
 mod fail;
 mod files;
+mod mem_sink;
 mod sink;
 
 pub use fail::{ReadFail, WriteFail};
 pub use files::{Files, Found};
+pub use mem_sink::MemSink;
 pub use sink::Sink;
