@@ -4,10 +4,13 @@
 mod calls;
 mod fail;
 mod files;
+mod host_sink;
 mod mem_sink;
 mod sink;
+mod transfer;
 
 pub use fail::{ReadFail, WriteFail};
 pub use files::{Files, Found};
+pub use host_sink::HostSink;
 pub use mem_sink::MemSink;
 pub use sink::Sink;
