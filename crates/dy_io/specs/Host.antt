@@ -1,5 +1,6 @@
 -- What sinks and files of the host are made of (own).
 use Rattle.std.specs.Prelude.{◌≡◌, ℕ, ◌≤◌, List, ◌++◌, length, take, Option, IfSome}
+use Rattle.dy_io.specs.declared.host_files.HostFiles.{HostFiles}
 use Rattle.dy_io.specs.declared.host_sink.HostSink.{HostSink}
 
 -- the writer behind a sink
@@ -15,3 +16,11 @@ sink_faults s = s.faults
 abbrev pub ReadsFront : Option (List ℕ) → ℕ → List ℕ → List ℕ → Type 0
 ReadsFront known most old new =
     (bytes : List ℕ) × (length bytes ≤ most) × (new ≡ old ++ bytes) × IfSome known (λ had. bytes ≡ take most had)
+
+-- how often a call of files of the host has failed
+abbrev pub files_faults : {R : Type 0} → HostFiles R → ℕ
+files_faults f = f.faults
+
+-- how often a file of the host was not there
+abbrev pub files_misses : {R : Type 0} → HostFiles R → ℕ
+files_misses f = f.misses

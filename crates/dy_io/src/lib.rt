@@ -4,6 +4,7 @@
 mod calls;
 mod fail;
 mod files;
+mod host_files;
 mod host_sink;
 mod mem_sink;
 mod sink;
@@ -11,6 +12,7 @@ mod transfer;
 
 pub use fail::{ReadFail, WriteFail};
 pub use files::{Files, Found};
+pub use host_files::HostFiles;
 pub use host_sink::HostSink;
 pub use mem_sink::MemSink;
 pub use sink::Sink;
