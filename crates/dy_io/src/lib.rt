@@ -3,6 +3,7 @@
 
 mod calls;
 mod fail;
+mod file_table;
 mod files;
 mod host_files;
 mod host_sink;
