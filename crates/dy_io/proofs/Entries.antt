@@ -1,7 +1,7 @@
 -- The files of a list of entries, against what a search among the entries finds.
-use Rattle.std.proofs.Common.{◌≡◌, ℕ, Bool, true, false, cond, List, [], ◌∷◌, map, Option, Some, None, String, string_bytes, Vec, BTreeMap, refl, sym, ap, ◌∙◌}
+use Rattle.std.proofs.Common.{◌≡◌, ◌≢◌, ℕ, Bool, true, false, cond, List, [], ◌∷◌, map, Option, Some, None, String, string_bytes, Vec, BTreeMap, refl, sym, ap, ◌∙◌}
 use Rattle.std.specs.Ordering.{nat_cmp, is_eq}
-use Rattle.std.specs.Cmp.Lexicographic.{slice_cmp, nat_list_cmp_total, nat_list_eq_equiv}
+use Rattle.std.specs.Cmp.Lexicographic.{slice_cmp, nat_list_cmp_total, nat_list_eq_equiv, bytes_decides}
 use Rattle.std.specs.Option.{option_map}
 use Rattle.std.specs.Str.{bytes_eq}
 use Rattle.std.specs.Map.{lookup, update}
@@ -65,3 +65,11 @@ module _ {A B : Type 0} where
       ∙ ap (λ here. cond here None (option_map (λ b. b.items) (get_by_text m other))) (turned name other)
       ∙ ap (cond (is_eq (slice_cmp nat_cmp other name)) None) (sym (get-files_of m other))
       ∙ sym (get-remove nat_list_cmp_total _ name other))
+
+-- the other files stay where one is taken out
+pub get-remove_other : (m : FileMap) (name other : List ℕ) → other ≢ name → get (remove m name) other ≡ get m other
+get-remove_other m name other differs = get-remove nat_list_cmp_total m name other ∙ kept (is_eq (slice_cmp nat_cmp other name)) refl
+  where
+    kept : (same : Bool) → is_eq (slice_cmp nat_cmp other name) ≡ same → cond same None (get m other) ≡ get m other
+    kept true same = absurd (differs ((bytes_decides other name).0 (sym (is_eq-slice_cmp other name) ∙ same)))
+    kept false same = refl
