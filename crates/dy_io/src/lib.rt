@@ -19,3 +19,6 @@ pub use host_sink::HostSink;
 pub use mem_files::MemFiles;
 pub use mem_sink::MemSink;
 pub use sink::Sink;
+
+#[cfg(test)]
+mod tests;
