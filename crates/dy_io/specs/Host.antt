@@ -1,4 +1,4 @@
--- What sinks and files of the host are made of (own).
+-- What sinks and files of the host are made of.
 use Rattle.std.specs.Prelude.{◌≡◌, ℕ, ◌≤◌, List, ◌++◌, length, take, Option, IfSome}
 use Rattle.dy_io.specs.declared.host_files.HostFiles.{HostFiles}
 use Rattle.dy_io.specs.declared.host_sink.HostSink.{HostSink}

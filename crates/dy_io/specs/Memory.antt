@@ -1,4 +1,4 @@
--- What files and sinks in memory hold (own).
+-- What files and sinks in memory hold.
 use Rattle.std.specs.Prelude.{ℕ, List, map, String, string_bytes, Vec, refl}
 use Rattle.std.specs.FinMap as finite
 use Rattle.std.specs.Coded.{Coded, code_by, coded×, coded_ℕ, coded_list}

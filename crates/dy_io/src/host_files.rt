@@ -45,6 +45,8 @@ impl<'a, R: rt::Files> Files for HostFiles<'a, R> {
 
     ghost misses = { λ f. f.misses };
 
+    /// A file that is not there is `Absent`. `Failed` comes where it could not be opened or read, as a
+    /// folder, or where its name is none that the system takes.
     fn read(
         &mut self,
         _alloc: Global,
@@ -74,6 +76,8 @@ impl<'a, R: rt::Files> Files for HostFiles<'a, R> {
         answer
     }
 
+    /// Makes the file where there is none. `Failed` comes where it could not be made or opened, or where
+    /// a write or the flush failed.
     fn write(&mut self, name: &str, bytes: &[u8]) -> Result<(), WriteFail>
         ensures failed { result ≡ Err WriteFail.Failed → Rose (files_faults self.old) (files_faults self.new) }
         ensures misses { files_misses self.old ≤ files_misses self.new }

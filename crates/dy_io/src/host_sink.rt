@@ -37,6 +37,8 @@ impl<W: Write + Drop> Sink for HostSink<W> {
 
     ghost faults = { λ s. s.faults };
 
+    /// `Failed` comes where a write or the flush failed, or where the writer took nothing of bytes that
+    /// were left.
     fn put(&mut self, bytes: &[u8]) -> Result<(), WriteFail>
         ensures failed { result ≡ Err WriteFail.Failed → Rose (sink_faults self.old) (sink_faults self.new) }
         ensures faults { sink_faults self.old ≤ sink_faults self.new }

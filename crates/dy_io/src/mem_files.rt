@@ -85,6 +85,7 @@ impl Files for MemFiles {
 
     ghost misses = { λ f. f.misses };
 
+    /// `Failed` comes exactly at the calls that were named.
     fn read(
         &mut self,
         _alloc: Global,
@@ -100,7 +101,7 @@ impl Files for MemFiles {
         ensures misses { self.old.misses ≤ self.new.misses }
         ensures faults { self.old.faults ≤ self.new.faults }
 
-        // Exactly the calls that were named fail, and else exactly a missing name is absent.
+        // A missing name is absent, except at a call that is to fail.
         ensures fails { (result ≡ Err ReadFail.Failed) ↔ FailsNext self.old.calls self.old.failing }
         ensures lacks { (result ≡ Ok Found.Absent) ↔ ((map.get self.old.files name.now ≡ None) × (result ≢ Err ReadFail.Failed)) }
         ensures calls { self.new.calls ≡ one_more self.old.calls }
@@ -127,6 +128,7 @@ impl Files for MemFiles {
         Ok(Found::Here)
     }
 
+    /// `Failed` comes exactly at the calls that were named, and such a call takes the file out.
     fn write(&mut self, name: &str, bytes: &[u8]) -> Result<(), WriteFail>
         ensures written { OnOk result (Writes (Some self.old.files) (Some self.new.files) name.now bytes.now) }
         ensures others { OnErr result (ChangesOnly (Some self.old.files) (Some self.new.files) name.now) }
@@ -135,7 +137,7 @@ impl Files for MemFiles {
         ensures misses { self.old.misses ≤ self.new.misses }
         ensures faults { self.old.faults ≤ self.new.faults }
 
-        // Exactly the calls that were named fail, and a failing call takes the file out.
+        // What a failing call does.
         ensures fails { (result ≡ Err WriteFail.Failed) ↔ FailsNext self.old.calls self.old.failing }
         ensures lost { result ≡ Err WriteFail.Failed → self.new.files ≡ map.remove self.old.files name.now }
         ensures calls { self.new.calls ≡ one_more self.old.calls }

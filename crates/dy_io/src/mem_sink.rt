@@ -65,6 +65,7 @@ impl Sink for MemSink {
 
     ghost faults = { λ s. s.faults };
 
+    /// `Failed` comes exactly at the calls that were named, and such a call sends nothing.
     fn put(&mut self, bytes: &[u8]) -> Result<(), WriteFail>
         ensures sent { OnOk result (Appends (Some self.old.bytes) (Some self.new.bytes) bytes.now) }
         ensures front { OnErr result (AppendsFront (Some self.old.bytes) (Some self.new.bytes) bytes.now) }
@@ -72,7 +73,7 @@ impl Sink for MemSink {
         ensures failed { result ≡ Err WriteFail.Failed → Rose self.old.faults self.new.faults }
         ensures faults { self.old.faults ≤ self.new.faults }
 
-        // Exactly the calls that were named fail, and a failing call sends nothing.
+        // What each call does to what the sink keeps.
         ensures fails { (result ≡ Err WriteFail.Failed) ↔ FailsNext self.old.calls self.old.failing }
         ensures kept { OnErr result (self.new.bytes ≡ self.old.bytes) }
         ensures calls { self.new.calls ≡ one_more self.old.calls }
