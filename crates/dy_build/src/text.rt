@@ -1,6 +1,6 @@
 //! The private reader of source texts.
 
-pub(crate) mod core;
+pub(crate) mod translate;
 pub(crate) mod form;
 pub(crate) mod lexing;
 pub(crate) mod parsing;

@@ -2,7 +2,7 @@
 
 ghost use Rattle.std.specs.Prelude.{◌≡◌, map, codes, IfOk, List, ℕ};
 ghost use Rattle.dy_term.specs.Core.{seen as seen_term, seen_top, seen_library, seen_program, Core};
-ghost use Rattle.dy_build.specs.Forms.{seen, seen_form};
+ghost use Rattle.dy_build.specs.Forms.{seen, seen_form, print};
 ghost use Rattle.dy_build.specs.Core.{generic_of, format_out, core_of, form_core, library_row, program_of};
 
 use crate::text::form::{Expression, Form, Operator};
@@ -47,16 +47,24 @@ fn core_of(alloc: Global, expression: &Expression) -> Result<Term, AllocError>
     }
 }
 
+/// The term of a form that prints a value.
+fn print_core(alloc: Global, value: &Expression) -> Result<Term, AllocError>
+    ensures { IfOk result (λ term. seen_term term ≡ form_core (print (seen value.now))) }
+{
+    let text = Text::of(alloc, b"%d\n")?;
+    let value = core_of(alloc, value)?;
+    let arguments = vec![in alloc; Term::Lit(Literal::Str(text)), value]?;
+    let function = Box::new(alloc, Term::Global(format_out()))?;
+    Ok(Term::Call(function, arguments))
+}
+
 /// The term of a form.
 fn form_core(alloc: Global, form: &Form) -> Result<TopTerm, AllocError>
     ensures { IfOk result (λ top. seen_top top ≡ form_core (seen_form form.now)) }
 {
-    let Form::Print(value) = form;
-    let text = Term::Lit(Literal::Str(Text::of(alloc, b"%d\n")?));
-    let value = core_of(alloc, value)?;
-    let arguments = vec![in alloc; text, value]?;
-    let function = Box::new(alloc, Term::Global(format_out()))?;
-    Ok(TopTerm::Run(Term::Call(function, arguments)))
+    match form {
+        Form::Print(value) => Ok(TopTerm::Run(print_core(alloc, value)?)),
+    }
 }
 
 fn library_row(
