@@ -114,7 +114,7 @@ complete sort tokens (operator_sum sign operator left right before after all e i
     ∙ last_product operator (measured left) (measured right) (measured (operation operator left right)) outer (joined_fits operator left right fits) token ends rest)
 complete sort tokens (print_form value inner all e h) = λ fits rest.
     let split : all ++ rest ≡ FormatOut ∷ Open ∷ Directive ∷ Comma ∷ (inner ++ Close ∷ rest) =
-        ap (λ (ts : List Token). ts ++ rest) e ∙ ap (λ (ts : List Token). FormatOut ∷ Open ∷ Directive ∷ Comma ∷ ts) (append_assoc inner (Close ∷ []) rest) in
+    ap (λ (ts : List Token). ts ++ rest) e ∙ ap (λ (ts : List Token). FormatOut ∷ Open ∷ Directive ∷ Comma ∷ ts) (append_assoc inner (Close ∷ []) rest) in
     ap (run begins) split ∙ complete (sum value) inner h (omega arith) printed tt Close tt rest
 complete sort tokens no_form = λ within. refl
 complete sort tokens (last_form first all h) = λ within.

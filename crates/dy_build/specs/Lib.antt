@@ -17,3 +17,5 @@ pub mod View
 pub mod Endings
 pub mod Results
 pub mod Outcome
+pub mod Judged
+pub mod Command

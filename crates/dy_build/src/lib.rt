@@ -1,8 +1,10 @@
 //! Commands: a library is read, lowered and run.
 #![tactic(auto)]
 
+mod command;
 mod layout;
 mod refused;
 mod run;
+mod source;
 mod text;
 mod words;
