@@ -5,13 +5,19 @@ ghost use Rattle.dy_io.specs.Causes.{Rose};
 ghost use Rattle.dy_io.specs.Files.{FileMap};
 ghost use Rattle.dy_term.specs.Core.{seen_program};
 ghost use Rattle.dy_build.specs.Meaning.{program_meaning};
-ghost use Rattle.dy_build.specs.Outcome.{default_fuel, run_report, build_report, refused};
-ghost use Rattle.dy_build.specs.Command.{PutsLine, Finishes};
+ghost use Rattle.dy_build.specs.Machine.{Final};
+ghost use Rattle.dy_build.specs.Endings.{EndsAs};
+ghost use Rattle.dy_build.specs.Refusals.{refusal_line};
+ghost use Rattle.dy_build.specs.Outcome.{default_fuel, run_report, build_report, verdict};
+ghost use Rattle.dy_build.specs.Command.{PutsLine, Closes, Finishes, Refuses, outputs};
+ghost use Rattle.dy_build.specs.Lines.{file_fault_line};
+ghost use Rattle.dy_io.specs.Sinks.{AppendsFront};
 
 use crate::refused::{Refused, file_fault_line, out_of_fuel_line, refusal_line, unhandled_line};
 use crate::run::execute::{RunEnd, run};
 use crate::run::lower::lower;
-use dy_io::{Sink, WriteFail};
+use crate::source::{Halt, read_program};
+use dy_io::{Files, Sink, WriteFail};
 use dy_term::Program;
 use std::alloc::Global;
 
@@ -28,5 +34,97 @@ fn put_line<E: Sink>(err: &mut E, line: &[u8], status: u8) -> u8
         Ok(()) => status,
         Err(WriteFail::Failed) => 5,
         Err(WriteFail::Memory) => 6,
+    }
+}
+
+/// Sends the last line of a run that ended so, if it has one, and answers the status.
+fn finish<E: Sink>(alloc: Global, end: RunEnd, err: &mut E) -> u8
+    ensures closes { (final : Final) → EndsAs end final → Closes end final result (E.contents err.old) (E.contents err.new) }
+    ensures fault { result ≡ 5 → (end ≡ RunEnd.WriteFault) ⊎ Rose (E.faults err.old) (E.faults err.new) }
+    ensures faults { E.faults err.old ≤ E.faults err.new }
+{
+    match end {
+        RunEnd::Finished => 0,
+        RunEnd::Signalled(text) => match unhandled_line(alloc, text.as_bytes()) {
+            Ok(line) => put_line(err, &line, 1),
+            Err(_) => 6,
+        },
+        RunEnd::OutOfFuel => put_line(err, out_of_fuel_line(), 7),
+        RunEnd::WriteFault => 5,
+        RunEnd::NoMemory => 6,
+    }
+}
+
+/// Lowers and runs a program.
+fn run_program<O: Sink, E: Sink>(
+    alloc: Global,
+    program: &Program,
+    out: &mut O,
+    err: &mut E,
+) -> u8
+    ensures finishes { Finishes (run_report (program_meaning (seen_program program.now) default_fuel)) result (outputs (O.contents out.old) (O.contents out.new) (E.contents err.old) (E.contents err.new)) }
+    ensures fault { result ≡ 5 → Rose (O.faults out.old) (O.faults out.new) ⊎ Rose (E.faults err.old) (E.faults err.new) }
+    ensures out_faults { O.faults out.old ≤ O.faults out.new }
+    ensures err_faults { E.faults err.old ≤ E.faults err.new }
+{
+    match lower(alloc, program) {
+        Ok(code) => {
+            let end = run(alloc, &code, DEFAULT_FUEL, out);
+            finish(alloc, end, err)
+        }
+        Err(_) => 6,
+    }
+}
+
+/// Sends the line of a refusal.
+fn refuse<E: Sink>(alloc: Global, why: &Refused, err: &mut E) -> u8
+    ensures puts { PutsLine 2 (refusal_line why.now) result (E.contents err.old) (E.contents err.new) }
+    ensures fault { result ≡ 5 → Rose (E.faults err.old) (E.faults err.new) }
+    ensures faults { E.faults err.old ≤ E.faults err.new }
+{
+    match refusal_line(alloc, why) {
+        Ok(line) => put_line(err, &line, 2),
+        Err(_) => 6,
+    }
+}
+
+/// Sends the line of a file that failed. The status stays where this line cannot be sent.
+fn report_fault<E: Sink>(alloc: Global, name: &[u8], err: &mut E) -> u8
+    ensures line { ((result ≡ 4) × AppendsFront (E.contents err.old) (E.contents err.new) (file_fault_line name.now)) ⊎ ((result ≡ 6) × (E.contents err.new ≡ E.contents err.old)) }
+    ensures faults { E.faults err.old ≤ E.faults err.new }
+{
+    match file_fault_line(alloc, name) {
+        Ok(line) => {
+            let _ = err.put(&line);
+            4
+        }
+        Err(_) => 6,
+    }
+}
+
+/// Builds and runs the library of a LID file.
+fn build<F: Files, O: Sink, E: Sink>(
+    alloc: Global,
+    lid: &str,
+    files: &mut F,
+    out: &mut O,
+    err: &mut E,
+) -> u8
+    ensures finishes { (held : FileMap) → F.contents files.old ≡ Some held → (result ≡ 4) ⊎ Finishes (build_report (verdict held lid.now)) result (outputs (O.contents out.old) (O.contents out.new) (E.contents err.old) (E.contents err.new)) }
+    ensures refused { result ≡ 2 → Refuses (F.misses files.old) (F.misses files.new) (outputs (O.contents out.old) (O.contents out.new) (E.contents err.old) (E.contents err.new)) }
+    ensures accepted { result ≢ 3 }
+    ensures failed { result ≡ 4 → Rose (F.faults files.old) (F.faults files.new) }
+    ensures cut { result ≡ 5 → Rose (O.faults out.old) (O.faults out.new) ⊎ Rose (E.faults err.old) (E.faults err.new) }
+    ensures contents { F.contents files.new ≡ F.contents files.old }
+    ensures misses { F.misses files.old ≤ F.misses files.new }
+    ensures faults { F.faults files.old ≤ F.faults files.new }
+    ensures out_faults { O.faults out.old ≤ O.faults out.new }
+    ensures err_faults { E.faults err.old ≤ E.faults err.new }
+{
+    match read_program(alloc, files, lid) {
+        Ok(program) => run_program(alloc, &program, out, err),
+        Err(Halt::Refused(why)) => refuse(alloc, &why, err),
+        Err(Halt::FileFault(name)) => report_fault(alloc, name.bytes(), err),
+        Err(Halt::Memory) => 6,
     }
 }
