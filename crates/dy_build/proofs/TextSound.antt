@@ -103,7 +103,7 @@ after_product_sound : (tree : DeepTree) (outer : Outer) (token : Token) (tokens 
 after_product_sound tree outer Times tokens (before, middle, e, m, h, s) = (before, middle, rw (e, append_assoc) refl, m, h, s)
 after_product_sound tree outer token tokens s = summed token (outer_of outer) tokens (sum_of tree outer) (sum_sound tree outer tokens s)
 
-abbrev Holds : Option (List FormTree) → List Token → Type 0
+abbrev pub Holds : Option (List FormTree) → List Token → Type 0
 Holds None tokens = Unit {0}
 Holds (Some forms) tokens = Derives (file forms) tokens × AllWithin nesting_limit forms
 
