@@ -1,9 +1,9 @@
 -- What is read of a text is what it stands for, and only that.
-use Rattle.std.proofs.Common.{◌≡◌, ℕ, Bool, true, false, cond, List, [], ◌∷◌, Option, Some, None, option_and_then, refl, sym, ◌∙◌}
+use Rattle.std.proofs.Common.{◌≡◌, ℕ, Bool, true, false, cond, List, [], Option, Some, None, option_and_then, refl, sym, ◌∙◌}
 use Rattle.dy_build.specs.declared.text.token.Token.{Token}
 use Rattle.dy_build.specs.Forms.{FormTree}
 use Rattle.dy_build.specs.Tokens.{Lexes}
-use Rattle.dy_build.specs.Grammar.{file, Derives, NestsWithin, AllWithin, nesting_limit, IsText}
+use Rattle.dy_build.specs.Grammar.{file, NestsWithin, nesting_limit, IsText}
 use Rattle.dy_build.specs.Lexing.{tokens_of}
 use Rattle.dy_build.specs.Reading.{begins, run, nests_within, forms_in, forms_of}
 use Rattle.dy_build.proofs.TextTokens.{LexesIf, tokens_sound, tokens_complete}

@@ -1,5 +1,5 @@
 -- The tokens that are read are those of the text.
-use Rattle.std.proofs.Common.{◌≡◌, ℕ, zero, suc, ◌+◌, ◌-◌, ◌*◌, ◌/◌, ◌<◌, ◌≤◌, ◌^◌, Bool, true, false, cond, ◌||◌, ◌&&◌, List, [], ◌∷◌, ◌++◌, length, take, drop, fold, Option, Some, None, option_map, ℤ, pos, codes, refl, sym, ap, subst, ◌∙◌, arith}
+use Rattle.std.proofs.Common.{◌≡◌, ℕ, zero, suc, ◌+◌, ◌-◌, ◌*◌, ◌/◌, ◌<◌, ◌≤◌, Bool, true, false, cond, List, [], ◌∷◌, ◌++◌, length, take, drop, fold, Option, Some, None, option_map, pos, codes, refl, sym, ap, arith}
 use Rattle.std.proofs.lemmas.List.{take-append-drop, take_at}
 use Rattle.std.proofs.lemmas.Bool.{cond_both, and_parts, ne_eqb, eqb-true, leb-true, ltb-false, le-ltb}
 use Rattle.std.proofs.Math.Numerals.{one-add}
@@ -11,8 +11,8 @@ use Rattle.dy_build.specs.declared.text.lexing.Class.{Class}
 use Rattle.dy_build.specs.declared.text.lexing.Class.TheVariants.{Blank, Digit, Letter, Quote, Single, Other}
 use Rattle.dy_build.specs.declared.text.lexing.Piece.{Piece}
 use Rattle.dy_build.specs.declared.text.lexing.Piece.TheVariants.{Nothing, Skipped, Taken}
-use Rattle.dy_build.specs.Tokens.{is_digit, is_letter, in_name, is_blank, Each, decimal_value, IsNumber, Spells, BeginsWithout, EndsBefore, Lexes, nothing, blank, token}
-use Rattle.dy_build.specs.Lexing.{class_of, number_of, number_piece, word_piece, string_piece, piece_from, piece_at, after_piece, tokens_after, tokens_of}
+use Rattle.dy_build.specs.Tokens.{is_digit, is_letter, in_name, is_blank, Each, IsNumber, Spells, BeginsWithout, EndsBefore, Lexes, nothing, blank, token}
+use Rattle.dy_build.specs.Lexing.{class_of, number_of, number_piece, piece_from, piece_at, after_piece, tokens_after, tokens_of}
 
 -- the longest run of bytes that pass
 passes_more : (p : ℕ → Bool) (byte : ℕ) (bytes : List ℕ) (n : ℕ) (b : Bool) → p byte ≡ b → Each p (take n bytes) → Each p (take (cond b (1 + n) 0) (byte ∷ bytes))

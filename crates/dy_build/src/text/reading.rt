@@ -28,5 +28,4 @@ pub(crate) fn text_laws()
     ensures all { (text : List ℕ) (forms : List FormTree) → IsText text forms → forms_of text ≡ Some forms }
     // No text stands for two lists of forms.
     ensures one { (text : List ℕ) (forms others : List FormTree) → IsText text forms → IsText text others → forms ≡ others }
-{
-}
+{}
