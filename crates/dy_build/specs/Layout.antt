@@ -1,5 +1,5 @@
 -- The files of a library, as this compiler takes them today (own).
-use Rattle.std.specs.Prelude.{◌≡◌, ℕ, ◌+◌, ◌≤◌, Bool, true, false, not, ◌&&◌, ◌||◌, ◌==◌, nat_eq, nat_le, ◌⊎◌, List, [], ◌∷◌, ◌++◌, length, Option, Some, None, IsTrue, codes, if◌then◌else◌, option_and_then}
+use Rattle.std.specs.Prelude.{ℕ, Bool, false, not, ◌&&◌, ◌||◌, ◌==◌, nat_eq, nat_le, List, [], ◌∷◌, ◌++◌, Option, Some, None, IsTrue, codes, if◌then◌else◌, option_and_then}
 use Rattle.std.specs.List.{list_any, list_all, before_first, after_first, ends_with}
 use Rattle.std.specs.Cmp.Lexicographic.{pointwise}
 
@@ -45,13 +45,27 @@ abbrev pub begins_with_letter : List ℕ → Bool
 begins_with_letter [] = false
 begins_with_letter (byte ∷ bytes) = is_small_letter byte
 
--- the words of statements and definitions, those that split a statement, and the reserved ones (DRM appendix A)
+-- the words that begin statements and bodies
+abbrev pub statement_words : List (List ℕ)
+statement_words =
+    codes "begin" ∷ codes "block" ∷ codes "case" ∷ codes "for" ∷ codes "if" ∷ codes "method" ∷ codes "select" ∷ codes "unless" ∷ codes "until" ∷ codes "while" ∷ []
+
+-- the words of definitions
+abbrev pub definition_words : List (List ℕ)
+definition_words =
+    codes "class" ∷ codes "constant" ∷ codes "domain" ∷ codes "function" ∷ codes "generic" ∷ codes "library" ∷ codes "macro" ∷ codes "module" ∷ codes "variable" ∷ []
+
+-- the words that split a statement
+abbrev pub clause_words : List (List ℕ)
+clause_words =
+    codes "else" ∷ codes "elseif" ∷ codes "cleanup" ∷ codes "afterwards" ∷ codes "exception" ∷ codes "finally" ∷ codes "then" ∷ codes "from" ∷ codes "to" ∷ codes "above" ∷ codes "below" ∷ codes "by" ∷ []
+
+-- the other reserved words (DRM appendix A)
+abbrev pub other_words : List (List ℕ)
+other_words = codes "define" ∷ codes "end" ∷ codes "handler" ∷ codes "let" ∷ codes "local" ∷ codes "otherwise" ∷ []
+
 abbrev pub reserved_words : List (List ℕ)
-reserved_words =
-    codes "begin" ∷ codes "block" ∷ codes "case" ∷ codes "for" ∷ codes "if" ∷ codes "method" ∷ codes "select" ∷ codes "unless" ∷ codes "until" ∷ codes "while"
-    ∷ codes "class" ∷ codes "constant" ∷ codes "domain" ∷ codes "function" ∷ codes "generic" ∷ codes "library" ∷ codes "macro" ∷ codes "module" ∷ codes "variable"
-    ∷ codes "else" ∷ codes "elseif" ∷ codes "cleanup" ∷ codes "afterwards" ∷ codes "exception" ∷ codes "finally" ∷ codes "then" ∷ codes "from" ∷ codes "to" ∷ codes "above" ∷ codes "below" ∷ codes "by"
-    ∷ codes "define" ∷ codes "end" ∷ codes "handler" ∷ codes "let" ∷ codes "local" ∷ codes "otherwise" ∷ []
+reserved_words = statement_words ++ (definition_words ++ (clause_words ++ other_words))
 
 abbrev pub is_reserved : List ℕ → Bool
 is_reserved word = list_any (is_same word) reserved_words || is_same word (codes "format-out")
@@ -59,10 +73,14 @@ is_reserved word = list_any (is_same word) reserved_words || is_same word (codes
 abbrev pub is_name : List ℕ → Bool
 is_name bytes = begins_with_letter bytes && list_all is_name_byte bytes && not (is_reserved bytes)
 
+-- a byte that is seen, in ASCII
+abbrev pub is_seen_byte : ℕ → Bool
+is_seen_byte byte = nat_le 33 byte && nat_le byte 126
+
 -- bytes that are seen, and one at least
 abbrev pub is_file_name : List ℕ → Bool
 is_file_name [] = false
-is_file_name (byte ∷ bytes) = list_all (λ b. nat_le 33 b && nat_le b 126) (byte ∷ bytes)
+is_file_name (byte ∷ bytes) = list_all is_seen_byte (byte ∷ bytes)
 
 -- what a LID file says: the library, and its two files
 pub record Lid : Type 0 where
@@ -91,16 +109,21 @@ abbrev pub checked_lid : List ℕ → Lid → Option Lid
 checked_lid [] lid = if is_name lid.library && is_file_name lid.first && is_file_name lid.second then Some lid else None
 checked_lid (byte ∷ bytes) lid = None
 
+-- what three lines say as those of a LID file, and the text behind them, which is to be empty
+abbrev pub lid_of_lines : List ℕ → List ℕ → List ℕ → List ℕ → Option Lid
+lid_of_lines first_line second_line third_line rest =
+    option_and_then (λ library. option_and_then (λ first. option_and_then
+    (λ second. checked_lid rest (record { library = library; first = first; second = second }))
+    (after_prefix (codes " ") third_line))
+    (after_prefix (codes "files: ") second_line))
+    (after_prefix (codes "library: ") first_line)
+
 -- what a text says as a LID file
 abbrev pub lid_of : List ℕ → Option Lid
 lid_of text =
     let second_line = lines_after text in
     let third_line = lines_after second_line in
-    option_and_then (λ library. option_and_then (λ first. option_and_then
-    (λ second. checked_lid (lines_after third_line) (record { library = library; first = first; second = second }))
-    (after_prefix (codes " ") (line_of third_line)))
-    (after_prefix (codes "files: ") (line_of second_line)))
-    (after_prefix (codes "library: ") (line_of text))
+    lid_of_lines (line_of text) (line_of second_line) (line_of third_line) (lines_after third_line)
 
 abbrev pub library_text : List ℕ → List ℕ
 library_text name =

@@ -4,8 +4,15 @@ pub mod Grammar
 pub mod Lexing
 pub mod Reading
 pub mod Layout
+pub mod Parts
 pub mod Words
 pub mod Refusals
+pub mod Lines
 pub mod Core
 pub mod Values
 pub mod Meaning
+pub mod Machine
+pub mod Code
+pub mod View
+pub mod Endings
+pub mod Results
