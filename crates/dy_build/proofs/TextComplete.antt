@@ -1,14 +1,14 @@
 -- What is derived is read, whatever follows.
-use Rattle.std.proofs.Common.{◌≡◌, ℕ, zero, suc, ◌+◌, ◌<◌, ◌≤◌, max, Bool, true, false, List, [], ◌∷◌, ◌++◌, Option, Some, None, option_map, refl, sym, ap, ◌∙◌, append_assoc, arith}
+use Rattle.std.proofs.Common.{◌≡◌, ℕ, zero, suc, ◌+◌, ◌<◌, ◌≤◌, max, true, List, [], ◌∷◌, ◌++◌, Option, Some, refl, ap, ◌∙◌, append_assoc, arith}
 use Rattle.std.proofs.lemmas.List.{append-nil}
 use Rattle.std.proofs.lemmas.Bool.{lt-ltb}
 use Rattle.dy_build.specs.declared.text.form.Operator.{Operator}
-use Rattle.dy_build.specs.declared.text.form.Operator.TheVariants.{Add, Subtract, Multiply}
+use Rattle.dy_build.specs.declared.text.form.Operator.TheVariants.{Multiply}
 use Rattle.dy_build.specs.declared.text.token.Token.{Token}
-use Rattle.dy_build.specs.declared.text.token.Token.TheVariants.{FormatOut, Directive, Number, Open, Close, Comma, Semicolon, Plus, Minus, Times}
-use Rattle.dy_build.specs.Forms.{Tree, number, operation, FormTree, print, depth, form_depth}
+use Rattle.dy_build.specs.declared.text.token.Token.TheVariants.{FormatOut, Directive, Open, Close, Comma, Semicolon, Plus, Minus, Times}
+use Rattle.dy_build.specs.Forms.{Tree, operation, depth, form_depth}
 use Rattle.dy_build.specs.Grammar.{IsSumOperator, Sort, leaf, product, sum, form, file, Derives, number_leaf, bracket_leaf, leaf_product, times_product, product_sum, operator_sum, print_form, no_form, last_form, more_forms, NestsWithin, AllWithin, nesting_limit}
-use Rattle.dy_build.specs.Reading.{DeepTree, Outer, printed, bracketed, multiplied, operated, Reader, begins, named, opened, directed, wants, has, formed, joined, after_leaf, after_sum, after_product, sum_of, outer_of, step, run, run_on, nests_within}
+use Rattle.dy_build.specs.Reading.{DeepTree, Outer, printed, bracketed, multiplied, operated, Reader, begins, wants, has, formed, joined, after_leaf, after_sum, run, run_on, nests_within}
 
 -- a tree with its depth
 abbrev pub measured : Tree → DeepTree

@@ -1,12 +1,12 @@
 -- What is read is derived.
-use Rattle.std.proofs.Common.{◌≡◌, ℕ, zero, suc, ◌+◌, ◌<◌, ◌≤◌, max, Bool, true, false, List, [], ◌∷◌, ◌++◌, Option, Some, None, option_map, option_and_then, refl, sym, ap, subst, ◌∙◌, append_assoc, arith}
+use Rattle.std.proofs.Common.{◌≡◌, ℕ, zero, suc, ◌+◌, ◌<◌, ◌≤◌, max, true, List, [], ◌∷◌, ◌++◌, Option, Some, None, option_map, option_and_then, refl, subst, append_assoc, arith}
 use Rattle.std.proofs.lemmas.List.{append-nil}
 use Rattle.std.proofs.lemmas.Bool.{ltb-true, cond_both}
 use Rattle.dy_build.specs.declared.text.form.Operator.{Operator}
-use Rattle.dy_build.specs.declared.text.form.Operator.TheVariants.{Add, Subtract, Multiply}
+use Rattle.dy_build.specs.declared.text.form.Operator.TheVariants.{Multiply}
 use Rattle.dy_build.specs.declared.text.token.Token.{Token}
 use Rattle.dy_build.specs.declared.text.token.Token.TheVariants.{FormatOut, Directive, Number, Open, Close, Comma, Semicolon, Plus, Minus, Times}
-use Rattle.dy_build.specs.Forms.{Tree, number, operation, FormTree, print, depth, form_depth}
+use Rattle.dy_build.specs.Forms.{Tree, number, operation, FormTree, depth, form_depth}
 use Rattle.dy_build.specs.Grammar.{IsSumOperator, Sort, leaf, product, sum, form, file, Derives, number_leaf, bracket_leaf, leaf_product, times_product, product_sum, operator_sum, print_form, no_form, last_form, more_forms, NestsWithin, AllWithin, nesting_limit}
 use Rattle.dy_build.specs.Reading.{DeepTree, Outer, printed, bracketed, multiplied, operated, Reader, begins, named, opened, directed, wants, has, formed, joined, multiplies, after_leaf, after_sum, after_product, after_form, closed, sum_of, outer_of, at_leaf, step, run, run_on, nests_within}
 
@@ -84,7 +84,7 @@ closed_sound tree printed tokens (before, middle, e, m, h, s) =
     (print_form tree.tree middle (tokens ++ Close ∷ []) (rw (e, s) refl) h, omega arith)
 closed_sound tree (bracketed outer) tokens (before, middle, e, m, h, s) =
     let (first, e2, below) = s in
-    let parts : first ++ Open ∷ (middle ++ Close ∷ []) ≡ tokens ++ Close ∷ [] = rw (e, e2, append_assoc, append_assoc) refl in
+    let parts : first ++ Open ∷ (middle ++ Close ∷ []) ≡ tokens ++ Close ∷ [] = rw (e, e2) (simp append_assoc) in
     subst (BeganIf (after_leaf tree outer)) parts (after_leaf_sound tree outer first (Open ∷ (middle ++ Close ∷ [])) m (bracket_leaf tree.tree middle (Open ∷ (middle ++ Close ∷ [])) refl h) below)
 closed_sound tree (multiplied left outer) tokens s = tt
 closed_sound tree (operated operator left outer) tokens s = tt
@@ -103,7 +103,7 @@ after_product_sound : (tree : DeepTree) (outer : Outer) (token : Token) (tokens 
 after_product_sound tree outer Times tokens (before, middle, e, m, h, s) = (before, middle, rw (e, append_assoc) refl, m, h, s)
 after_product_sound tree outer token tokens s = summed token (outer_of outer) tokens (sum_of tree outer) (sum_sound tree outer tokens s)
 
-abbrev Holds : Option (List FormTree) → List Token → Type 0
+abbrev pub Holds : Option (List FormTree) → List Token → Type 0
 Holds None tokens = Unit {0}
 Holds (Some forms) tokens = Derives (file forms) tokens × AllWithin nesting_limit forms
 

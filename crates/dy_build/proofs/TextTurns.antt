@@ -1,11 +1,11 @@
 -- Turns of the loop over a text, and the words at its front.
-use Rattle.std.proofs.Common.{◌≡◌, ℕ, zero, suc, ◌+◌, ◌-◌, ◌<◌, ◌≤◌, List, [], ◌∷◌, ◌++◌, length, take, drop, get_or, Option, Some, None, option_map, ℤ, pos, refl, sym, ap, ◌∙◌, add-one, append_assoc, arith}
+use Rattle.std.proofs.Common.{◌≡◌, ℕ, zero, suc, ◌+◌, ◌-◌, ◌<◌, List, [], ◌∷◌, ◌++◌, length, take, drop, get_or, Option, Some, None, option_map, ℤ, pos, refl, sym, ap, ◌∙◌, add-one, append_assoc, arith}
 use Rattle.std.proofs.lemmas.List.{take_all}
 use Rattle.std.specs.List.{prefix_len}
 use Rattle.dy_build.specs.declared.text.token.Token.{Token}
 use Rattle.dy_build.specs.declared.text.lexing.Class.TheVariants.{Digit, Letter}
 use Rattle.dy_build.specs.declared.text.lexing.Piece.{Piece}
-use Rattle.dy_build.specs.declared.text.lexing.Piece.TheVariants.{Skipped, Taken}
+use Rattle.dy_build.specs.declared.text.lexing.Piece.TheVariants.{Taken}
 use Rattle.dy_build.specs.Tokens.{is_digit, in_name}
 use Rattle.dy_build.specs.Lexing.{class_of, number_of, number_piece, word_piece, piece_in, tokens_of, tokens_after, with_front}
 

@@ -1,5 +1,5 @@
 -- The tokens of a text, by functions that compute.
-use Rattle.std.specs.Prelude.{ℕ, zero, suc, ◌+◌, ◌-◌, ◌*◌, ◌/◌, ◌≤◌, Bool, true, false, ◌==◌, nat_eq, nat_lt, if◌then◌else◌, List, [], ◌∷◌, ◌++◌, take, Option, Some, None, option_map, ℤ, pos, codes}
+use Rattle.std.specs.Prelude.{ℕ, zero, suc, ◌+◌, ◌-◌, ◌*◌, ◌/◌, ◌^◌, ◌≤◌, ◌==◌, nat_eq, nat_lt, if◌then◌else◌, List, [], ◌∷◌, ◌++◌, take, Option, Some, None, option_map, ℤ, pos, codes}
 use Rattle.std.specs.List.{prefix_len, starts_with}
 use Rattle.dy_build.specs.declared.text.token.Token.{Token}
 use Rattle.dy_build.specs.declared.text.token.Token.TheVariants.{FormatOut, Directive, Number, Open, Close, Comma, Semicolon, Plus, Minus, Times}
@@ -26,11 +26,15 @@ class_of byte =
     else if byte == 42 then Single Times
     else Other
 
--- the number that digits stand for behind digits that stand for `value`, unless it has more than 63 bits
+-- the largest number that a token stands for
+abbrev pub largest_number : ℕ
+largest_number = 2 ^ 63 - 1
+
+-- the number that digits stand for behind digits that stand for `value`, unless it is too large
 abbrev pub number_of : ℕ → List ℕ → Option ℕ
 number_of value [] = Some value
 number_of value (digit ∷ digits) =
-    if nat_lt ((9223372036854775807 - (digit - 48)) / 10) value then None else number_of (value * 10 + (digit - 48)) digits
+    if nat_lt ((largest_number - (digit - 48)) / 10) value then None else number_of (value * 10 + (digit - 48)) digits
 
 -- a number whose first byte has so many bytes behind it
 abbrev pub number_piece : Option ℤ → ℕ → Piece

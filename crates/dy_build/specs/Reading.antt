@@ -7,7 +7,7 @@ use Rattle.dy_build.specs.declared.text.token.Token.TheVariants.{FormatOut, Dire
 use Rattle.dy_build.specs.declared.text.parsing.Deep.{Deep}
 use Rattle.dy_build.specs.declared.text.parsing.Place.{Place, Printed, Bracketed', Multiplied', Operated'}
 use Rattle.dy_build.specs.declared.text.parsing.State as code
-use Rattle.dy_build.specs.Forms.{Tree, number, operation, FormTree, print, depth, seen, seen_form}
+use Rattle.dy_build.specs.Forms.{Tree, number, operation, FormTree, print, seen, seen_form}
 use Rattle.dy_build.specs.Grammar.{nesting_limit}
 use Rattle.dy_build.specs.Lexing.{tokens_of}
 

@@ -8,6 +8,9 @@ ghost use Rattle.dy_build.specs.Lexing.{class_of, number_of, number_piece, word_
 use crate::text::token::Token;
 use std::alloc::{AllocError, Global};
 
+/// The largest number that a token stands for.
+const LARGEST_NUMBER: u64 = 0x7fff_ffff_ffff_ffff;
+
 /// What a byte says that stands at the front.
 #[derive(Clone, Copy, Debug, PartialEq, Eq)]
 pub(crate) enum Class {
@@ -46,25 +49,11 @@ fn is_letter(byte: u8) -> bool
 fn is_graphic(byte: u8) -> bool
     ensures { result ≡ is_graphic byte }
 {
-    matches!(
-        byte,
-        b'!' | b'$'
-            | b'%'
-            | b'&'
-            | b'*'
-            | b'+'
-            | b'-'
-            | b'/'
-            | b'<'
-            | b'='
-            | b'>'
-            | b'?'
-            | b'@'
-            | b'^'
-            | b'_'
-            | b'|'
-            | b'~'
-    )
+    match byte {
+        b'!' | b'$' | b'%' | b'&' | b'*' | b'+' | b'-' | b'/' => true,
+        b'<' | b'=' | b'>' | b'?' | b'@' | b'^' | b'_' | b'|' | b'~' => true,
+        _ => false,
+    }
 }
 
 fn in_name(byte: u8) -> bool
@@ -92,13 +81,14 @@ fn class_of(byte: u8) -> Class
     }
 }
 
+/// The number that digits stand for, if it has no more than 63 bits.
 fn number_of(digits: &[u8]) -> Option<i64>
     ensures { result ≡ option_map pos (number_of 0 digits.now) }
 {
     let mut value: u64 = 0;
     for digit in digits {
         let digit = u64::from(digit.saturating_sub(b'0'));
-        if (9223372036854775807 - digit) / 10 < value {
+        if (LARGEST_NUMBER - digit) / 10 < value {
             return None;
         }
         value = value * 10 + digit;
@@ -106,6 +96,7 @@ fn number_of(digits: &[u8]) -> Option<i64>
     Some(value as i64)
 }
 
+/// How many digits there are at the front.
 fn digits_len(bytes: &[u8]) -> usize
     ensures len { result ≡ prefix_len is_digit bytes.now }
     ensures within { result ≤ length bytes.now }
@@ -113,6 +104,7 @@ fn digits_len(bytes: &[u8]) -> usize
     bytes.iter().take_while(|byte| is_digit(**byte)).count()
 }
 
+/// How many bytes of a name there are at the front.
 fn word_len(bytes: &[u8]) -> usize
     ensures len { result ≡ prefix_len in_name bytes.now }
     ensures within { result ≤ length bytes.now }
@@ -120,6 +112,7 @@ fn word_len(bytes: &[u8]) -> usize
     bytes.iter().take_while(|byte| in_name(**byte)).count()
 }
 
+/// A number whose first byte has so many bytes behind it.
 fn number_piece(value: Option<i64>, more: usize) -> Piece
     ensures piece { result ≡ number_piece value more }
     ensures within { IsWithin result more }
@@ -130,6 +123,7 @@ fn number_piece(value: Option<i64>, more: usize) -> Piece
     }
 }
 
+/// The token that a word is, if it is one.
 fn word_piece(word: &[u8], more: usize) -> Piece
     ensures piece { result ≡ word_piece word.now more }
     ensures within { IsWithin result more }
@@ -141,6 +135,7 @@ fn word_piece(word: &[u8], more: usize) -> Piece
     }
 }
 
+/// The token that begins with a quotation mark, from behind it.
 fn string_piece(bytes: &[u8]) -> Piece
     ensures piece { result ≡ string_piece bytes.now }
     ensures within { IsWithin result (length bytes.now) }

@@ -50,6 +50,7 @@ pub(crate) enum State {
     Formed(Form),
 }
 
+/// An operation, unless it is too deep for a form.
 fn joined(
     alloc: Global,
     operator: Operator,
@@ -71,6 +72,7 @@ fn joined(
     }
 }
 
+/// What was read once a leaf was read.
 fn after_leaf(alloc: Global, leaf: Deep, place: Place) -> Result<Option<State>, AllocError>
     ensures { IfOk result (λ state. option_map seen_reader state ≡ after_leaf (seen_deep leaf) (seen_outer place)) }
 {
@@ -88,6 +90,7 @@ fn after_leaf(alloc: Global, leaf: Deep, place: Place) -> Result<Option<State>, 
     }
 }
 
+/// What was read once a bracket behind a sum was read.
 fn closed(alloc: Global, sum: Deep, place: Place) -> Result<Option<State>, AllocError>
     ensures { IfOk result (λ state. option_map seen_reader state ≡ closed (seen_deep sum) (seen_outer place)) }
 {
@@ -99,6 +102,7 @@ fn closed(alloc: Global, sum: Deep, place: Place) -> Result<Option<State>, Alloc
     }
 }
 
+/// What was read once a sum, and this token behind it, were read.
 fn after_sum(
     alloc: Global,
     token: Token,
@@ -119,16 +123,11 @@ fn after_sum(
             Box::new(alloc, place)?,
         )))),
         Token::Close => closed(alloc, sum, place),
-        Token::FormatOut => Ok(None),
-        Token::Directive => Ok(None),
-        Token::Number(_) => Ok(None),
-        Token::Open => Ok(None),
-        Token::Comma => Ok(None),
-        Token::Semicolon => Ok(None),
-        Token::Times => Ok(None),
+        _ => Ok(None),
     }
 }
 
+/// The same of the sum that ends with this product.
 fn after_terms(
     alloc: Global,
     product: Deep,
@@ -153,6 +152,7 @@ fn after_terms(
     }
 }
 
+/// What was read once this token behind a product was read.
 fn after_product(
     alloc: Global,
     product: Deep,
@@ -163,18 +163,11 @@ fn after_product(
 {
     match token {
         Token::Times => Ok(Some(State::Wants(Place::Multiplied(product, Box::new(alloc, place)?)))),
-        Token::FormatOut => after_terms(alloc, product, place, token),
-        Token::Directive => after_terms(alloc, product, place, token),
-        Token::Number(_) => after_terms(alloc, product, place, token),
-        Token::Open => after_terms(alloc, product, place, token),
-        Token::Close => after_terms(alloc, product, place, token),
-        Token::Comma => after_terms(alloc, product, place, token),
-        Token::Semicolon => after_terms(alloc, product, place, token),
-        Token::Plus => after_terms(alloc, product, place, token),
-        Token::Minus => after_terms(alloc, product, place, token),
+        _ => after_terms(alloc, product, place, token),
     }
 }
 
+/// What was read once the first token of a leaf was read.
 fn at_leaf(alloc: Global, place: Place, token: Token) -> Result<Option<State>, AllocError>
     ensures { IfOk result (λ state. option_map seen_reader state ≡ at_leaf (seen_outer place) token) }
 {
@@ -188,14 +181,7 @@ fn at_leaf(alloc: Global, place: Place, token: Token) -> Result<Option<State>, A
             place,
         ),
         Token::Open => Ok(Some(State::Wants(Place::Bracketed(Box::new(alloc, place)?)))),
-        Token::FormatOut => Ok(None),
-        Token::Directive => Ok(None),
-        Token::Close => Ok(None),
-        Token::Comma => Ok(None),
-        Token::Semicolon => Ok(None),
-        Token::Plus => Ok(None),
-        Token::Minus => Ok(None),
-        Token::Times => Ok(None),
+        _ => Ok(None),
     }
 }
 
@@ -285,6 +271,7 @@ fn end(mut forms: Vec<Form>, state: State) -> Result<Option<Vec<Form>>, AllocErr
     }
 }
 
+/// The forms of tokens whose brackets are not nested too deeply.
 fn run(alloc: Global, tokens: &[Token]) -> Result<Option<Vec<Form>>, AllocError>
     ensures { IfOk result (λ forms. option_map (λ v. map seen_form v.items) forms ≡ run begins tokens.now) }
 {
@@ -299,6 +286,7 @@ fn run(alloc: Global, tokens: &[Token]) -> Result<Option<Vec<Form>>, AllocError>
     end(forms, state)
 }
 
+/// No more brackets are open at one place than the limit.
 fn nests(tokens: &[Token]) -> bool
     ensures { result ≡ nests_within nesting_limit tokens.now }
 {

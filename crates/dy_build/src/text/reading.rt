@@ -19,3 +19,13 @@ pub(crate) fn read_text(alloc: Global, text: &[u8]) -> Result<Option<Vec<Form>>,
         None => Ok(None),
     }
 }
+
+/// What the laws of reading say of every text.
+pub(crate) fn text_laws()
+    // What is read is what the text stands for.
+    ensures read { (text : List ℕ) (forms : List FormTree) → forms_of text ≡ Some forms → IsText text forms }
+    // What a text stands for is read.
+    ensures all { (text : List ℕ) (forms : List FormTree) → IsText text forms → forms_of text ≡ Some forms }
+    // No text stands for two lists of forms.
+    ensures one { (text : List ℕ) (forms others : List FormTree) → IsText text forms → IsText text others → forms ≡ others }
+{}

@@ -1,5 +1,4 @@
-use Rattle.std.proofs.Common.{◌≡◌, rules, arith}
-use Rattle.dy_build.specs.Lexing.{tokens_of, with_front}
+use Rattle.std.proofs.Common.{arith}
 use Rattle.dy_build.proofs.TextTurns.{taken_turn}
 use Rattle.dy_build.proofs.text.lexing.tokens_of.Goals as goal
 
