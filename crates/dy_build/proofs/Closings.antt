@@ -1,5 +1,5 @@
 -- How the end of a run becomes the end of a command.
-use Rattle.std.proofs.Common.{◌≡◌, ℕ, ◌≤◌, List, [], length, take, Option, Some, None, Result, Ok, Err, inl, inr, refl, sym, ap, subst, ◌∙◌, arith}
+use Rattle.std.proofs.Common.{◌≡◌, ◌⊎◌, ℕ, ◌≤◌, List, [], length, take, Option, Some, None, Result, Ok, Err, inl, inr, refl, sym, ap, subst, ◌∙◌, arith}
 use Rattle.std.specs.Prelude.{OnOk, OnErr}
 use Rattle.std.specs.Borrow.{Bor}
 use Rattle.std.specs.Io.KnownBytes.{Appends}
@@ -15,7 +15,7 @@ use Rattle.dy_build.specs.Machine.{Final, Finished, Failed, OutOfFuel}
 use Rattle.dy_build.specs.Code.{final_of}
 use Rattle.dy_build.specs.Endings.{EndsAs, Sends, sent_by}
 use Rattle.dy_build.specs.Outcome.{Report, Verdict, refused, run_report, build_report}
-use Rattle.dy_build.specs.Command.{PutsLine, final_report, Closes, outputs, Finishes}
+use Rattle.dy_build.specs.Command.{PutsLine, final_report, Closes, Outputs, outputs, SentFront, Finishes}
 
 pub appends_front : (old new : Option (List ℕ)) (bytes : List ℕ) → Appends old new bytes → AppendsFront old new bytes
 appends_front old new bytes h = (length bytes, omega arith, subst (Appends old new) (sym (take_all (length bytes) bytes (omega arith))) h)
@@ -59,3 +59,11 @@ appends_nothing (Some bytes) = sym (append-nil bytes)
 pub refused_finishes : (why : Refused) (verdict : Verdict) (result : ℕ) (a b c : Option (List ℕ)) → verdict ≡ refused why → PutsLine 2 (refusal_line why) result b c → Finishes (build_report verdict) result (outputs a a b c)
 refused_finishes why verdict result a b c is puts =
     subst (λ (v : Verdict). Finishes (build_report v) result (outputs a a b c)) (sym is) (line_finishes (build_report (refused why)) result a a b c (appends_nothing a) puts)
+
+-- where a sink or memory failed, a front of the report was sent
+pub fronts_of : (report : Report) (result : ℕ) (ends : Outputs) → ((result ≡ 4) ⊎ Finishes report result ends) → ((result ≡ 5) ⊎ (result ≡ 6)) → SentFront report ends
+fronts_of report result ends (inl four) (inl five) = absurd (omega arith)
+fronts_of report result ends (inl four) (inr six) = absurd (omega arith)
+fronts_of report result ends (inr (inl (status, sent))) which =
+    record { out = appends_front _ _ report.out sent.out; err = appends_front _ _ report.err sent.err }
+fronts_of report result ends (inr (inr (cause, fronts))) which = fronts

@@ -9,7 +9,7 @@ use Rattle.dy_build.specs.declared.refused.Refused.{Refused}
 use Rattle.dy_build.specs.declared.run.execute.RunEnd.{RunEnd}
 use Rattle.dy_build.specs.declared.run.execute.RunEnd.TheVariants as ends
 use Rattle.dy_build.specs.Refusals.{refusal_line}
-use Rattle.dy_build.specs.Lines.{unhandled_line, out_of_fuel_line}
+use Rattle.dy_build.specs.Lines.{file_fault_line, unhandled_line, out_of_fuel_line}
 use Rattle.dy_build.specs.Machine.{Final, Finished, Failed, OutOfFuel}
 use Rattle.dy_build.specs.Outcome.{Report}
 
@@ -61,3 +61,16 @@ abbrev pub Refuses : ℕ → ℕ → Outputs → Type 0
 Refuses misses_before misses_now outputs =
     (why : Refused) × Appends outputs.err_before outputs.err_now (refusal_line why) × (outputs.out_now ≡ outputs.out_before)
     × (why.kind ≡ NoFile → Rose misses_before misses_now)
+
+-- The line of a file that failed was sent, or a front of it, and nothing went to the output.
+abbrev pub TellsFault : Outputs → Type 0
+TellsFault outputs =
+    (name : List ℕ) × AppendsFront outputs.err_before outputs.err_now (file_fault_line name) × (outputs.out_now ≡ outputs.out_before)
+
+-- a count of faults has not risen
+abbrev pub Stood : ℕ → ℕ → Type 0
+Stood before now = Rose before now → ⊥
+
+-- the status is the report's, and all of the report was sent
+abbrev pub Done : Report → ℕ → Outputs → Type 0
+Done report result outputs = (result ≡ report.status) × Sent report outputs

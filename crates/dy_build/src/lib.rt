@@ -8,3 +8,5 @@ mod run;
 mod source;
 mod text;
 mod words;
+
+pub use command::run_words;

@@ -62,9 +62,3 @@ pub(crate) fn read_lid<'a>(text: &'a [u8]) -> Option<LidParts<'a>>
     let (third_line, rest) = split_line(rest);
     read_lines(first_line, second_line, third_line, rest)
 }
-
-/// A text is read as a LID file exactly where it is the text of one.
-pub(crate) fn lid_laws()
-    ensures sound { (text : List ℕ) (lid : Lid) → lid_of text ≡ Some lid → IsLid text lid }
-    ensures complete { (text : List ℕ) (lid : Lid) → IsLid text lid → lid_of text ≡ Some lid }
-{}
