@@ -1,5 +1,5 @@
 -- What the answers of the steps say of the answer of the whole.
-use Rattle.std.proofs.Common.{◌≡◌, ℕ, List, Result, Ok, Err, Some, Bool, true, false, refl, sym, ap, subst, ◌∙◌}
+use Rattle.std.proofs.Common.{◌≡◌, ℕ, List, Result, Ok, Err, refl, sym, ◌∙◌}
 use Rattle.std.specs.Prelude.{IfErr}
 use Rattle.dy_base.specs.declared.kind.Kind.TheVariants.{NoFile, Syntax}
 use Rattle.dy_term.specs.declared.program.Program.{Program}
@@ -7,7 +7,7 @@ use Rattle.dy_build.specs.declared.source.Source.{Source as Read}
 use Rattle.dy_build.specs.declared.source.Source.TheVariants as read
 use Rattle.dy_build.specs.declared.source.Halt.{Halt}
 use Rattle.dy_build.specs.declared.source.Halt.TheVariants as halts
-use Rattle.dy_build.specs.Outcome.{Source, absent, too_long, text, Verdict, judged_texts, judged_second, judged_first, judged_forms, forms_in, is_library_source}
+use Rattle.dy_build.specs.Outcome.{Verdict, judged_texts, judged_first}
 use Rattle.dy_build.specs.Judged.{seen_source, Judges, Misses, Fails, IsPlain, Interrupts}
 
 pub interrupted_judges : (halt : Halt) (before now : ℕ) (verdict : Verdict) → Interrupts before now halt → Judges (Err halt) verdict

@@ -1,5 +1,5 @@
 -- The code of terms in a list.
-use Rattle.std.proofs.Common.{rules, ◌≡◌, ℕ, ◌+◌, List, [], ◌∷◌, ◌++◌, map, length, refl, sym, ap, ◌∙◌, append_assoc, arith}
+use Rattle.std.proofs.Common.{rules, ◌≡◌, ℕ, List, [], ◌∷◌, ◌++◌, map, length, refl, sym, ap, ◌∙◌, append_assoc, arith}
 use Rattle.std.specs.declared.vec.Vec.{Vec}
 use Rattle.std.specs.declared.boxed.Box.{Box}
 use Rattle.std.specs.declared.alloc.Global.{Global}
@@ -7,7 +7,7 @@ use Rattle.std.proofs.lemmas.List.{length-map}
 use Rattle.dy_base.specs.declared.ids.GenericId.{GenericId}
 use Rattle.dy_term.specs.declared.term.Term.{Term, the_lemmas}
 use Rattle.dy_term.specs.declared.term.Term.TheVariants.{Call, Site}
-use Rattle.dy_term.specs.Core.{Core, Cores, call, site, more, seen, cores_of}
+use Rattle.dy_term.specs.Core.{Core, call, site, seen, cores_of}
 use Rattle.dy_term.proofs.Rows.{seen_items}
 use Rattle.dy_build.specs.declared.run.code.Instr.{Instr}
 use Rattle.dy_build.specs.declared.run.code.Instr.TheVariants.{Push, CallValue, Search}

@@ -1,10 +1,10 @@
 -- A byte past the limit shows that a file is too long.
-use Rattle.std.proofs.Common.{◌≡◌, ℕ, ◌+◌, ◌<◌, ◌≤◌, ◌⊎◌, Bool, true, false, cond, List, [], ◌++◌, length, take, Some, refl, sym, ap, ◌∙◌, inl, inr, arith}
+use Rattle.std.proofs.Common.{◌≡◌, ℕ, ◌+◌, ◌<◌, ◌≤◌, ◌⊎◌, Bool, false, cond, List, length, take, Some, sym, ap, ◌∙◌, inl, inr, arith}
 use Rattle.std.specs.Prelude.{nat_le}
 use Rattle.std.proofs.lemmas.Bool.{cases_lt, lt-leb}
 use Rattle.std.proofs.lemmas.List.{length-take-le, take_all}
-use Rattle.dy_build.specs.Layout.{file_limit, with_line_feeds}
-use Rattle.dy_build.specs.Outcome.{Source, text, too_long, source_of}
+use Rattle.dy_build.specs.Layout.{with_line_feeds}
+use Rattle.dy_build.specs.Outcome.{text, too_long, source_of}
 
 front_source : (limit : ℕ) (bytes : List ℕ) → ((limit < length bytes) ⊎ (length bytes ≤ limit))
     → cond (nat_le (length (take (limit + 1) bytes)) limit) (text (with_line_feeds (take (limit + 1) bytes))) too_long ≡ cond (nat_le (length bytes) limit) (text (with_line_feeds bytes)) too_long

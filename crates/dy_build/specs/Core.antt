@@ -1,12 +1,11 @@
 -- Forms as core terms.
 use Rattle.std.specs.Prelude.{ℕ, List, [], ◌∷◌, map, codes}
 use Rattle.dy_base.specs.Folding.{folded}
-use Rattle.dy_base.specs.declared.ids.Ref.{Ref}
 use Rattle.dy_base.specs.declared.ids.GenericId.{GenericId}
 use Rattle.dy_base.specs.declared.ids.BindingId.{BindingId}
 use Rattle.dy_base.specs.declared.ids.What.TheVariants.{Function}
 use Rattle.dy_term.specs.declared.literal.Literal.TheVariants.{Int, Str}
-use Rattle.dy_term.specs.Core.{Core, literal, global, call, site, Cores, none, more, CoreLibrary}
+use Rattle.dy_term.specs.Core.{Core, literal, global, call, site, none, more, CoreLibrary}
 use Rattle.dy_build.specs.declared.text.form.Operator.{Operator}
 use Rattle.dy_build.specs.declared.text.form.Operator.TheVariants.{Add, Subtract, Multiply}
 use Rattle.dy_build.specs.Forms.{Tree, number, operation, FormTree, print}

@@ -1,5 +1,5 @@
 -- Forms without where they lie in memory, and how deep they are.
-use Rattle.std.specs.Prelude.{ℕ, ℤ, ◌+◌, max, List}
+use Rattle.std.specs.Prelude.{ℕ, ℤ, ◌+◌, max}
 use Rattle.dy_build.specs.declared.text.form.Operator.{Operator}
 use Rattle.dy_build.specs.declared.text.form.Expression.{Expression, Number, Operation'}
 use Rattle.dy_build.specs.declared.text.form.Form.{Form}

@@ -4,7 +4,7 @@
 --     sum     = product { ("+" | "-") product }
 --     product = leaf { "*" leaf }
 --     leaf    = number | "(" sum ")"
-use Rattle.std.specs.Prelude.{◌≡◌, ℕ, zero, suc, ℤ, ◌+◌, ◌-◌, ◌≤◌, max, List, [], ◌∷◌, ◌++◌}
+use Rattle.std.specs.Prelude.{◌≡◌, ℕ, zero, suc, ℤ, ◌≤◌, List, [], ◌∷◌, ◌++◌}
 use Rattle.dy_build.specs.declared.text.form.Operator.{Operator}
 use Rattle.dy_build.specs.declared.text.form.Operator.TheVariants.{Add, Subtract, Multiply}
 use Rattle.dy_build.specs.declared.text.token.Token.{Token}

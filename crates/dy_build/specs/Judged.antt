@@ -1,5 +1,5 @@
 -- What reading the sources answers.
-use Rattle.std.specs.Prelude.{◌≡◌, ℕ, List, Result, Ok, Err}
+use Rattle.std.specs.Prelude.{◌≡◌, ℕ, Result, Ok, Err}
 use Rattle.dy_base.specs.declared.kind.Kind.TheVariants.{NoFile, Syntax}
 use Rattle.dy_io.specs.Causes.{Rose}
 use Rattle.dy_term.specs.declared.program.Program.{Program}

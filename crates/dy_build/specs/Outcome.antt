@@ -1,5 +1,5 @@
 -- What a command comes to (own).
-use Rattle.std.specs.Prelude.{ℕ, nat_le, List, [], ◌∷◌, length, Option, Some, None, Bool, false, if◌then◌else◌, option_and_then}
+use Rattle.std.specs.Prelude.{ℕ, nat_le, List, [], length, Option, Some, None, Bool, false, if◌then◌else◌, option_and_then}
 use Rattle.std.specs.List.{concat}
 use Rattle.std.specs.FinMap as map
 use Rattle.dy_io.specs.Files.{FileMap}

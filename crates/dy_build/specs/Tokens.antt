@@ -1,5 +1,5 @@
 -- Which tokens a text consists of (DRM 2, appendix A). It is stated of texts whose lines end with LF.
-use Rattle.std.specs.Prelude.{◌≡◌, ℕ, ◌+◌, ◌-◌, ◌*◌, ◌^◌, ◌<◌, ◌≤◌, Bool, true, false, ◌&&◌, ◌||◌, ◌==◌, nat_le, List, [], ◌∷◌, ◌++◌, length, ℤ, codes, pos, fold}
+use Rattle.std.specs.Prelude.{◌≡◌, ℕ, ◌+◌, ◌-◌, ◌*◌, ◌^◌, ◌<◌, Bool, true, false, ◌&&◌, ◌||◌, ◌==◌, nat_le, List, [], ◌∷◌, ◌++◌, length, codes, pos, fold}
 use Rattle.dy_build.specs.declared.text.token.Token.{Token}
 use Rattle.dy_build.specs.declared.text.token.Token.TheVariants.{FormatOut, Directive, Number, Open, Close, Comma, Semicolon, Plus, Minus, Times}
 

@@ -1,7 +1,7 @@
 -- The arguments of a term, as the list of them.
-use Rattle.std.proofs.Common.{◌≡◌, List, [], ◌∷◌, map, refl, ap}
-use Rattle.dy_term.specs.declared.term.Term.{Term, Row_of-Term, end_of-Term, more_of-Term, items-the_row-Term}
-use Rattle.dy_term.specs.Core.{Core, Cores, more, seen, seen_row, cores_of}
+use Rattle.std.proofs.Common.{◌≡◌, map, refl, ap}
+use Rattle.dy_term.specs.declared.term.Term.{Row_of-Term, end_of-Term, more_of-Term, items-the_row-Term}
+use Rattle.dy_term.specs.Core.{Cores, more, seen, seen_row, cores_of}
 
 pub seen_items : {m : _} (row : Row_of-Term m) → seen_row row ≡ cores_of (map seen (items-the_row-Term m row))
 seen_items end_of-Term = refl

@@ -1,5 +1,5 @@
-use Rattle.std.proofs.Common.{◌≡◌, List, ℕ, Option, sym, subst, ap}
-use Rattle.dy_build.specs.Outcome.{Report, outcome, command_report}
+use Rattle.std.proofs.Common.{List, ℕ, Option, subst}
+use Rattle.dy_build.specs.Outcome.{command_report}
 use Rattle.dy_build.specs.Command.{SentFront, outputs}
 use Rattle.dy_build.proofs.Closings.{fronts_of}
 use Rattle.dy_build.proofs.Lids.{lid_of-sound, lid_of-complete}

@@ -1,4 +1,4 @@
-use Rattle.std.proofs.Common.{◌≡◌, List, ℕ, Bool, true, cond, Some, sym, ap, subst, ◌∙◌}
+use Rattle.std.proofs.Common.{◌≡◌, List, ℕ, Bool, true, cond, sym, ap, subst, ◌∙◌}
 use Rattle.dy_build.specs.Refusals.{syntax}
 use Rattle.dy_build.specs.Layout.{source_name}
 use Rattle.dy_build.specs.Outcome.{Source, source_at, judged_first, judged_forms, forms_in, refused, is_library_source}

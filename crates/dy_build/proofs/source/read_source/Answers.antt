@@ -1,5 +1,4 @@
-use Rattle.std.proofs.Common.{◌≡◌, ◌++◌, List, ℕ, Some, take, sym, ap, ◌∙◌}
-use Rattle.std.specs.FinMap as map
+use Rattle.std.proofs.Common.{◌++◌, List, ℕ, Some, take, sym, ap, ◌∙◌}
 use Rattle.dy_build.specs.Outcome.{source_of}
 use Rattle.dy_build.proofs.Sources.{source_of-front}
 use Rattle.dy_build.proofs.source.read_source.Goals as goal

@@ -1,6 +1,6 @@
-use Rattle.std.proofs.Common.{◌≡◌, take, map, sym, ap, ◌∙◌, subst, arith, List}
+use Rattle.std.proofs.Common.{◌≡◌, sym, subst, arith, List}
 use Rattle.std.proofs.lemmas.Grind.{common_steps}
-use Rattle.dy_term.specs.Core.{seen_library, seen_program}
+use Rattle.dy_term.specs.Core.{seen_program}
 use Rattle.dy_build.specs.declared.run.code.Instr.{Instr}
 use Rattle.dy_build.specs.Code.{program_code, Behaves}
 use Rattle.dy_build.proofs.Runs.{behaves}

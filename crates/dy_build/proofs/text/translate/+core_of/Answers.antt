@@ -1,6 +1,6 @@
-use Rattle.std.proofs.Common.{◌≡◌, ◌∷◌, [], List, map, sym, ap, ◌∙◌, refl}
+use Rattle.std.proofs.Common.{◌≡◌, ◌∷◌, [], List, map, sym, ap, ◌∙◌}
 use Rattle.dy_term.specs.declared.term.Term.{Term}
-use Rattle.dy_term.specs.Core.{Core, Cores, site, none, more, cores_of, seen as seen_term}
+use Rattle.dy_term.specs.Core.{Core, site, none, more, cores_of, seen as seen_term}
 use Rattle.dy_build.specs.declared.text.form.Expression.{Expression}
 use Rattle.dy_build.specs.Forms.{seen}
 use Rattle.dy_build.specs.Core.{generic_of, core_of}

@@ -1,8 +1,6 @@
-use Rattle.std.proofs.Common.{◌≡◌, ◌∷◌, [], List, map, sym, ap, ◌∙◌, refl}
+use Rattle.std.proofs.Common.{◌≡◌, List, map, ap, ◌∙◌}
 use Rattle.dy_term.specs.declared.term.Term.{Term}
-use Rattle.dy_term.specs.Core.{Core, Cores, call, global, cores_of, seen as seen_term}
-use Rattle.dy_build.specs.Core.{form_core}
-use Rattle.dy_build.specs.Forms.{seen, print}
+use Rattle.dy_term.specs.Core.{Core, call, global, cores_of, seen as seen_term}
 use Rattle.dy_build.proofs.Rows.{seen_call}
 use Rattle.dy_build.proofs.text.translate.print_core.Goals as goal
 
