@@ -6,7 +6,7 @@ use std::alloc::{AllocError, Global};
 use std::marker::Model;
 
 /// Bytes that are shown or printed, in any encoding.
-#[derive(Debug, Drop)]
+#[derive(Clone, Debug, Drop)]
 pub struct Text {
     bytes: Vec<u8>,
 }
