@@ -1,6 +1,9 @@
 //! The tokens of a source file (DRM 2, "Lexical syntax").
 
+ghost use Rattle.std.specs.Prelude.{◌≡◌, IfOk};
+
 use dy_base::{Place, Text};
+use std::alloc::AllocError;
 
 /// What a token is.
 #[derive(Clone, Copy, Debug, PartialEq, Eq)]
@@ -43,4 +46,13 @@ pub struct Token {
     pub origin: u32,
     /// The number of the module in which a name of this token is looked up.
     pub module: u32,
+}
+
+impl Token {
+    /// The same token, in memory of its own.
+    pub fn copy(&self) -> Result<Token, AllocError>
+        ensures { IfOk result (λ copy. copy ≡ self.now) }
+    {
+        self.clone()
+    }
 }
