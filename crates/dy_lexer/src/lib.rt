@@ -1,0 +1,8 @@
+//! Reads source files and LID files as tokens.
+#![tactic(auto)]
+
+mod class;
+mod literal;
+mod piece;
+
+pub use class::{Class, Piece};
