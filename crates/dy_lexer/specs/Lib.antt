@@ -1,4 +1,6 @@
 pub mod Bytes
 pub mod Words
 pub mod Scan
+pub mod Literals
 pub mod Pieces
+pub mod Tokens

@@ -1,8 +1,10 @@
 -- Literals and comments, which have an end: automata over bytes.
-use Rattle.std.specs.Prelude.{◌≡◌, ℕ, ◌+◌, ◌-◌, ◌*◌, Bool, true, false, ◌&&◌, ◌||◌, ◌==◌, nat_lt, if◌then◌else◌, List, [], ◌∷◌, Option, Some, None, option_map}
+use Rattle.std.specs.Prelude.{◌≡◌, ℕ, ◌+◌, ◌-◌, ◌*◌, ◌≤◌, Bool, true, false, ◌&&◌, ◌||◌, ◌==◌, nat_lt, if◌then◌else◌, List, [], ◌∷◌, Option, Some, None, option_map}
 use Rattle.dy_lexer.specs.Bytes.{digit_of}
-use Rattle.dy_lexer.specs.declared.literal.Spelling.{Spelling}
-use Rattle.dy_lexer.specs.declared.literal.Spelling.TheVariants.{Plain, Escape, Open, Digit, Digits}
+use Rattle.dy_lexer.specs.declared.spelling.Spelling.{Spelling}
+use Rattle.dy_lexer.specs.declared.spelling.Spelling.TheVariants.{Plain, Escape, Open, Digit, Digits}
+use Rattle.dy_lexer.specs.declared.spelling.Read.{Read}
+use Rattle.dy_lexer.specs.declared.spelling.Read.TheVariants.{Value, GoesOn, Wrong}
 
 -- n bytes more
 abbrev pub plus : ℕ → Option ℕ → Option ℕ
@@ -67,33 +69,28 @@ abbrev pub is_plain : Bool → ℕ → Bool
 is_plain tabs b = if b == 9 then tabs else if nat_lt b 32 then false else if b == 127 then false else true
 
 -- what a byte of a character's spelling gives
-pub data Spelled : Type 0 where
-  Gives : (v : ℕ) → Spelled
-  Reads : (s : Spelling) → Spelled
-  Wrong : Spelled
-
-abbrev pub given : Option ℕ → Spelled
-given (Some v) = Gives v
+abbrev pub given : Option ℕ → Read
+given (Some v) = Value v
 given None = Wrong
 
-abbrev pub digit_read : (ℕ → Spelling) → Option ℕ → Spelled
-digit_read to (Some v) = Reads (to v)
+abbrev pub digit_read : (ℕ → Spelling) → Option ℕ → Read
+digit_read to (Some v) = GoesOn (to v)
 digit_read to None = Wrong
 
-abbrev pub spelling_step : Bool → Spelling → ℕ → Spelled
-spelling_step tabs Plain b = if b == 92 then Reads Escape else if is_plain tabs b then Gives b else Wrong
-spelling_step tabs Escape b = if b == 60 then Reads Open else given (escape_of b)
+abbrev pub spelling_step : Bool → Spelling → ℕ → Read
+spelling_step tabs Plain b = if b == 92 then GoesOn Escape else if is_plain tabs b then Value b else Wrong
+spelling_step tabs Escape b = if b == 60 then GoesOn Open else given (escape_of b)
 spelling_step tabs Open b = digit_read (λ v. Digit v) (digit_of b)
-spelling_step tabs (Digit v) b = if b == 62 then Gives v else digit_read (λ w. Digits (16 * v + w)) (digit_of b)
-spelling_step tabs (Digits v) b = if b == 62 then Gives v else Wrong
+spelling_step tabs (Digit v) b = if b == 62 then Value v else digit_read (λ w. Digits (16 * v + w)) (digit_of b)
+spelling_step tabs (Digits v) b = if b == 62 then Value v else Wrong
 
 abbrev pub value_and : ℕ → Option (List ℕ) → Option (List ℕ)
 value_and v None = None
 value_and v (Some vs) = Some (v ∷ vs)
 
-abbrev pub spelled : Spelled → (Spelling → Option (List ℕ)) → Option (List ℕ)
-spelled (Gives v) rest = value_and v (rest Plain)
-spelled (Reads s) rest = rest s
+abbrev pub spelled : Read → (Spelling → Option (List ℕ)) → Option (List ℕ)
+spelled (Value v) rest = value_and v (rest Plain)
+spelled (GoesOn s) rest = rest s
 spelled Wrong rest = None
 
 abbrev pub ended : Spelling → Option (List ℕ)
@@ -107,3 +104,12 @@ decoded_from tabs s (b ∷ bs) = spelled (spelling_step tabs s b) (λ s'. decode
 
 abbrev pub decoded : Bool → List ℕ → Option (List ℕ)
 decoded tabs bytes = decoded_from tabs Plain bytes
+
+-- a digit in a spelling is below 16
+abbrev pub IsSmall : Spelling → Type 0
+IsSmall (Digit v) = v ≤ 15
+IsSmall _ = Unit {0}
+
+abbrev pub IsSmallRead : Read → Type 0
+IsSmallRead (GoesOn s) = IsSmall s
+IsSmallRead _ = Unit {0}

@@ -4,5 +4,6 @@
 mod class;
 mod literal;
 mod piece;
+mod spelling;
 
 pub use class::{Class, Piece};
