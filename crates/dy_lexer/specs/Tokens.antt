@@ -83,6 +83,11 @@ abbrev pub characters : Place → Option (List ℕ) → OneToken
 characters place (Some vs) = plain Str vs place
 characters place None = Err (fault_at BadLiteral place)
 
+-- a token, and after its text the characters of a string
+abbrev pub string_after : Token → Place → Option (List ℕ) → OneToken
+string_after first place (Some vs) = Ok (record first { text = first.text ++ vs })
+string_after first place None = Err (fault_at BadLiteral place)
+
 abbrev pub quoted_symbol : Place → Option (List ℕ) → OneToken
 quoted_symbol place (Some vs) = plain Symbol (folded vs) place
 quoted_symbol place None = Err (fault_at BadLiteral place)
@@ -140,16 +145,29 @@ tokens_of (suc n) file at [] = Ok []
 tokens_of (suc n) file at (b ∷ bs) =
     after_piece (record { file = file; offset = at }) (b ∷ bs) (piece_at (b ∷ bs)) (λ len. tokens_of n file (at + len) (drop len (b ∷ bs)))
 
--- two tokens in a row: two strings are one, at the place of the first
-abbrev pub joined_pair : TokenKind → TokenKind → Token → Token → List Token
-joined_pair Str Str first second = record first { text = first.text ++ second.text } ∷ []
-joined_pair _ _ first second = first ∷ second ∷ []
+abbrev pub is_string : TokenKind → Bool
+is_string Str = true
+is_string _ = false
+
+-- two tokens in a row, by whether both are strings: two strings are one, at the place of the first
+abbrev pub joined_pair : Bool → Token → Token → List Token
+joined_pair true first second = record first { text = first.text ++ second.text } ∷ []
+joined_pair false first second = first ∷ second ∷ []
 
 -- a token after others: a string after a string is joined to it
 abbrev pub with_token : List Token → Token → List Token
 with_token [] t = t ∷ []
-with_token (last ∷ []) t = joined_pair last.kind t.kind last t
+with_token (last ∷ []) t = joined_pair (is_string last.kind && is_string t.kind) last t
 with_token (first ∷ second ∷ rest) t = first ∷ with_token (second ∷ rest) t
+
+abbrev pub added : List Token → OneToken → Tokens
+added ts (Ok t) = Ok (with_token ts t)
+added ts (Err f) = Err f
+
+abbrev pub added_piece : List Token → Result (Option Token) Fault → Tokens
+added_piece ts (Ok None) = Ok ts
+added_piece ts (Ok (Some t)) = Ok (with_token ts t)
+added_piece ts (Err f) = Err f
 
 -- tokens after others, adjacent strings joined
 abbrev pub with_tokens : List Token → List Token → List Token

@@ -81,6 +81,12 @@ pub(crate) fn is_digit(b: u8) -> bool
     matches!(class_of(b), Class::Digit)
 }
 
+pub(crate) fn is_letter(b: u8) -> bool
+    ensures { result ≡ bytes.is_letter b }
+{
+    matches!(class_of(b), Class::Letter)
+}
+
 pub(crate) fn is_blank(b: u8) -> bool
     ensures { result ≡ bytes.is_blank b }
 {
@@ -112,6 +118,7 @@ pub(crate) fn in_base(base: u8, b: u8) -> bool
 /// The base that a letter after `#` names.
 pub(crate) fn base_of(b: u8) -> Option<u8>
     ensures value { result ≡ bytes.base_of b }
+    ensures some { IfSome result (λ base. 2 ≤ base) }
     ensures small { IfSome result (λ base. base ≤ 16) }
 {
     match b {

@@ -5,5 +5,6 @@ mod class;
 mod literal;
 mod piece;
 mod spelling;
+mod token;
 
 pub use class::{Class, Piece};

@@ -5,9 +5,9 @@ ghost use Rattle.dy_base.specs.Folding.{folded};
 ghost use Rattle.dy_lexer.specs.Bytes as bytes;
 ghost use Rattle.dy_lexer.specs.Scan.{escape_of, is_plain, decoded, spelling_step, IsSmall, IsSmallRead};
 ghost use Rattle.dy_lexer.specs.Literals.{appended};
-ghost use Rattle.dy_lexer.specs.Tokens.{value_from, fitting, or_zero};
+ghost use Rattle.dy_lexer.specs.Tokens.{value_from, value_of, value_after_hash, fitting, or_zero};
 
-use crate::class::digit_of;
+use crate::class::{base_of, digit_of};
 use crate::spelling::{Read, Spelling};
 use dy_base::Text;
 use std::alloc::{AllocError, Global};
@@ -142,7 +142,7 @@ fn digit_value(b: u8) -> u8
 }
 
 /// The value of the digits, if it fits 64 bits with a sign.
-pub(crate) fn value_from(base: u64, digits: &[u8]) -> Option<u64>
+fn value_from(base: u64, digits: &[u8]) -> Option<u64>
     requires some { 2 ≤ base }
     requires small { base ≤ 16 }
     ensures value { result ≡ fitting (value_from base 0 digits.now) }
@@ -157,4 +157,29 @@ pub(crate) fn value_from(base: u64, digits: &[u8]) -> Option<u64>
         n = n * base + d;
     }
     Some(n)
+}
+
+fn value_after_hash(bytes: &[u8]) -> Option<u64>
+    ensures value { result ≡ fitting (value_after_hash bytes.now) }
+    ensures within { IfSome result (λ n. n < 2 ^ 63) }
+{
+    match bytes {
+        [] => Some(0),
+        [b, rest @ ..] => match base_of(*b) {
+            Some(base) => value_from(u64::from(base), rest),
+            None => Some(0),
+        },
+    }
+}
+
+/// The value of an integer as it is written, if it fits 64 bits with a sign.
+pub(crate) fn value_of(bytes: &[u8]) -> Option<u64>
+    ensures value { result ≡ fitting (value_of bytes.now) }
+    ensures within { IfSome result (λ n. n < 2 ^ 63) }
+{
+    match bytes {
+        [] => Some(0),
+        [b'#', rest @ ..] => value_after_hash(rest),
+        [_, ..] => value_from(10, bytes),
+    }
 }
