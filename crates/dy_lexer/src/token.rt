@@ -1,10 +1,10 @@
 //! The token of a piece.
 
-ghost use Rattle.std.specs.Prelude.{◌≡◌, ◌∷◌, [], ◌+◌, ◌-◌, ◌++◌, ◌≤◌, ◌<◌, ◌^◌, length, take, drop, pos, true, false};
+ghost use Rattle.std.specs.Prelude.{◌≡◌, ◌∷◌, [], ◌+◌, ◌-◌, ◌++◌, ◌≤◌, ◌<◌, ◌^◌, length, take, drop, pos, true, false, Ok};
 ghost use Rattle.dy_base.specs.Folding.{folded};
 ghost use Rattle.dy_lexer.specs.Scan.{decoded};
 ghost use Rattle.dy_lexer.specs.Tokens as tokens;
-ghost use Rattle.dy_lexer.specs.Tokens.{Gives, fault_at, inner, token_of, token_at, added, added_piece, with_token};
+ghost use Rattle.dy_lexer.specs.Tokens.{Gives, fault_at, inner, token_of, token_at, added, added_piece, with_token, is_string};
 
 use crate::class::{Piece, is_digit, is_letter};
 use crate::literal::{decoded, folded, value_of};
@@ -154,5 +154,122 @@ fn string_after(alloc: Global, first: Token, place: Place, bytes: &[u8]) -> Resu
             module,
         }),
         None => Err(fault(alloc, Kind::BadLiteral, place)),
+    }
+}
+
+/// The token of a piece, and before what it stands.
+fn token_of(
+    alloc: Global,
+    kind: TokenKind,
+    place: Place,
+    bytes: &[u8],
+    rest: &[u8],
+) -> Result<Token, Refusal>
+    ensures { Gives (λ t. t) result (token_of kind place bytes.now rest.now) }
+{
+    match kind {
+        TokenKind::Name => plain(alloc, kind, bytes, place),
+        TokenKind::Escaped => plain(alloc, kind, after(1, bytes), place),
+        TokenKind::Symbol => symbol_at(alloc, place, bytes),
+        TokenKind::Int => integer_at(alloc, place, bytes, rest),
+        TokenKind::Char => character(alloc, place, inner(1, bytes)),
+        TokenKind::Str => string_after(
+            alloc,
+            token(kind, Text::from_vec(Vec::new(alloc)), 0, place),
+            place,
+            inner(1, bytes),
+        ),
+        TokenKind::Mark => plain(alloc, kind, bytes, place),
+        TokenKind::PatternVar => plain(alloc, kind, bytes, place),
+        TokenKind::CallSite => plain(alloc, kind, after(2, bytes), place),
+        TokenKind::Operator => plain(alloc, kind, bytes, place),
+        TokenKind::Punctuation => plain(alloc, kind, bytes, place),
+    }
+}
+
+fn is_string(kind: TokenKind) -> bool
+    ensures { result ≡ is_string kind }
+{
+    matches!(kind, TokenKind::Str)
+}
+
+fn pushed(tokens: Vec<Token>, token: Token) -> Result<Vec<Token>, Refusal>
+    ensures { Gives (λ v. v.items) result (Ok (tokens.items ++ token ∷ [])) }
+{
+    let mut tokens = tokens;
+    tokens.push(token)?;
+    Ok(tokens)
+}
+
+/// The tokens, and after them a token that is no string.
+fn add_token(tokens: Vec<Token>, token: Token) -> Result<Vec<Token>, Refusal>
+    requires { is_string token.kind ≡ false }
+    ensures { Gives (λ v. v.items) result (Ok (with_token tokens.items token)) }
+{
+    pushed(tokens, token)
+}
+
+/// A string after a token, to which it is joined if that is one too.
+fn add_after(
+    alloc: Global,
+    tokens: Vec<Token>,
+    last: Token,
+    place: Place,
+    bytes: &[u8],
+    rest: &[u8],
+) -> Result<Vec<Token>, Refusal>
+    ensures { Gives (λ v. v.items) result (added (tokens.items ++ last ∷ []) (token_of TokenKind.Str place bytes.now rest.now)) }
+{
+    if is_string(last.kind) {
+        let whole = string_after(alloc, last, place, inner(1, bytes))?;
+        pushed(tokens, whole)
+    } else {
+        let tokens = pushed(tokens, last)?;
+        let second = token_of(alloc, TokenKind::Str, place, bytes, rest)?;
+        pushed(tokens, second)
+    }
+}
+
+fn add_string(
+    alloc: Global,
+    tokens: Vec<Token>,
+    place: Place,
+    bytes: &[u8],
+    rest: &[u8],
+) -> Result<Vec<Token>, Refusal>
+    ensures { Gives (λ v. v.items) result (added tokens.items (token_of TokenKind.Str place bytes.now rest.now)) }
+{
+    let mut tokens = tokens;
+    match tokens.pop() {
+        None => {
+            let first = token_of(alloc, TokenKind::Str, place, bytes, rest)?;
+            pushed(tokens, first)
+        }
+        Some(last) => add_after(alloc, tokens, last, place, bytes, rest),
+    }
+}
+
+/// The tokens, and after them that of a piece.
+pub(crate) fn add_piece(
+    alloc: Global,
+    tokens: Vec<Token>,
+    piece: Piece,
+    place: Place,
+    bytes: &[u8],
+    rest: &[u8],
+) -> Result<Vec<Token>, Refusal>
+    ensures { Gives (λ v. v.items) result (added_piece tokens.items (token_at piece place bytes.now rest.now)) }
+{
+    match piece {
+        Piece::Comment => Ok(tokens),
+        Piece::Blank => Ok(tokens),
+        Piece::Token(kind) => {
+            if is_string(kind) {
+                add_string(alloc, tokens, place, bytes, rest)
+            } else {
+                let token = token_of(alloc, kind, place, bytes, rest)?;
+                add_token(tokens, token)
+            }
+        }
     }
 }
