@@ -1,5 +1,5 @@
 -- The next piece of a text, by functions that compute.
-use Rattle.std.specs.Prelude.{ℕ, zero, suc, ◌+◌, ◌-◌, Bool, true, false, ◌&&◌, ◌||◌, ◌==◌, nat_le, if◌then◌else◌, List, [], ◌∷◌, take, drop, length, Result, Ok, Err, Option, Some, None}
+use Rattle.std.specs.Prelude.{◌≡◌, ◌<◌, ℕ, zero, suc, ◌+◌, ◌-◌, Bool, true, false, ◌&&◌, ◌||◌, ◌==◌, nat_le, if◌then◌else◌, List, [], ◌∷◌, take, drop, length, Result, Ok, Err, Option, Some, None}
 use Rattle.std.specs.List.{prefix_len}
 use Rattle.dy_base.specs.declared.kind.Kind.{Kind}
 use Rattle.dy_base.specs.declared.kind.Kind.TheVariants.{BadByte, OpenComment, OpenString, BadLiteral}
@@ -152,3 +152,7 @@ piece_from Other b bs = Err BadByte
 abbrev pub piece_at : List ℕ → Found
 piece_at [] = Err BadByte
 piece_at (b ∷ bs) = piece_from (class_of b) b bs
+
+-- no name begins at any of the first bytes
+abbrev pub IsNameless : ℕ → List ℕ → Type 0
+IsNameless bare text = (k : ℕ) → k < bare → name_len (drop k text) ≡ None

@@ -4,6 +4,7 @@
 mod class;
 mod literal;
 mod piece;
+mod reading;
 mod spelling;
 mod token;
 
