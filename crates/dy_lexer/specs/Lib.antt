@@ -4,3 +4,5 @@ pub mod Scan
 pub mod Literals
 pub mod Pieces
 pub mod Tokens
+pub mod Forms
+pub mod Cut
