@@ -10,21 +10,40 @@ within low high b = nat_le low b && nat_le b high
 abbrev pub is_graphic : ℕ → Bool
 is_graphic b = b == 33 || within 36 38 b || b == 42 || b == 60 || b == 62 || b == 64 || b == 94 || b == 95 || b == 124
 
-abbrev pub class_of : ℕ → Class
-class_of b =
-    if within 97 122 b || within 65 90 b then Letter
-    else if within 48 57 b then Digit
-    else if b == 32 || within 9 10 b || within 12 13 b then Space
-    else if is_graphic b then Graphic
-    else if b == 43 || b == 45 || b == 61 || b == 126 then Joint
-    else if b == 40 || b == 41 || b == 44 || b == 46 || b == 58 || b == 59 || b == 91 || b == 93 || b == 123 || b == 125 then Sign
-    else if b == 47 then Slash
+abbrev pub is_letter_byte : ℕ → Bool
+is_letter_byte b = within 97 122 b || within 65 90 b
+
+-- space, tab, line feed, form feed and carriage return
+abbrev pub is_space_byte : ℕ → Bool
+is_space_byte b = b == 32 || within 9 10 b || within 12 13 b
+
+-- + - = ~
+abbrev pub is_joint_byte : ℕ → Bool
+is_joint_byte b = b == 43 || b == 45 || b == 61 || b == 126
+
+-- ( ) , . : ; [ ] { }
+abbrev pub is_sign_byte : ℕ → Bool
+is_sign_byte b = b == 40 || b == 41 || b == 44 || b == 46 || b == 58 || b == 59 || b == 91 || b == 93 || b == 123 || b == 125
+
+abbrev pub one_byte_class : ℕ → Class
+one_byte_class b =
+    if b == 47 then Slash
     else if b == 35 then Hash
     else if b == 63 then Question
     else if b == 92 then Backslash
     else if b == 39 then SingleQuote
     else if b == 34 then DoubleQuote
     else Other
+
+abbrev pub class_of : ℕ → Class
+class_of b =
+    if is_letter_byte b then Letter
+    else if within 48 57 b then Digit
+    else if is_space_byte b then Space
+    else if is_graphic b then Graphic
+    else if is_joint_byte b then Joint
+    else if is_sign_byte b then Sign
+    else one_byte_class b
 
 -- the classes of the bytes that stand in a name after its first letter
 abbrev pub is_name_class : Class → Bool
