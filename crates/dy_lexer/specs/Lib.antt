@@ -4,5 +4,6 @@ pub mod Scan
 pub mod Literals
 pub mod Pieces
 pub mod Tokens
+pub mod Headers
 pub mod Forms
 pub mod Cut

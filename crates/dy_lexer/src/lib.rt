@@ -2,6 +2,7 @@
 #![tactic(auto)]
 
 mod class;
+mod header;
 mod literal;
 mod piece;
 mod reading;
