@@ -132,13 +132,16 @@ abbrev pub longer : Option (List ℕ) → List ℕ → Option (List ℕ)
 longer None line = None
 longer (Some value) line = Some (value ++ 10 ∷ line)
 
+abbrev pub longer_name : Head → List ℕ → Head
+longer_name head line = record head { name = longer head.name line }
+
 abbrev pub more_files : Head → ℕ → Option (List (List ℕ)) → List ℕ → Head
 more_files head at None line = head
 more_files head at (Some names) line = named_file head at names (trimmed line)
 
 abbrev pub continued : Within → Head → ℕ → List ℕ → Head
 continued in_.Nothing head at line = faulted head at
-continued in_.Name head at line = record head { name = longer head.name line }
+continued in_.Name head at line = longer_name head line
 continued in_.Files head at line = more_files head at head.files line
 continued in_.Other head at line = head
 

@@ -5,6 +5,7 @@ ghost use Rattle.std.specs.List.{prefix_len};
 ghost use Rattle.dy_lexer.specs.Bytes.{is_blank, in_line};
 ghost use Rattle.dy_lexer.specs.Words.{is_same};
 ghost use Rattle.dy_lexer.specs.Headers as headers;
+ghost use Rattle.dy_lexer.specs.Headers.{header_from, opened};
 
 use crate::class::{is_blank, is_digit, is_letter};
 use crate::literal::folded;
@@ -325,4 +326,189 @@ fn named_file(alloc: Global, head: Head, at: u32, names: Items<Text>, name: &[u8
         within: Within::Files,
         fault,
     })
+}
+
+fn begun_name(alloc: Global, head: Head, at: u32, value: &[u8]) -> Result<Head, AllocError>
+    ensures { IfOk result (λ next. next ≡ headers.begun_name head at head.name value.now) }
+{
+    let Head {
+        name,
+        files,
+        within: _,
+        fault,
+    } = head;
+    match name {
+        None => Ok(Head {
+            name: Some(Text::of(alloc, value)?),
+            files,
+            within: Within::Name,
+            fault,
+        }),
+        Some(name) => Ok(Head {
+            name: Some(name),
+            files,
+            within: Within::Other,
+            fault: first_fault(fault, at),
+        }),
+    }
+}
+
+fn begun_files(alloc: Global, head: Head, at: u32, value: &[u8]) -> Result<Head, AllocError>
+    ensures { IfOk result (λ next. next ≡ headers.begun_files head at head.files value.now) }
+{
+    let Head {
+        name,
+        files,
+        within,
+        fault,
+    } = head;
+    match files {
+        None => {
+            let rest = Head {
+                name,
+                files: None,
+                within,
+                fault,
+            };
+            named_file(alloc, rest, at, Items::new(alloc), trimmed(value))
+        }
+        Some(names) => Ok(Head {
+            name,
+            files: Some(names),
+            within: Within::Other,
+            fault: first_fault(fault, at),
+        }),
+    }
+}
+
+fn keyed(alloc: Global, key: Key, head: Head, at: u32, value: &[u8]) -> Result<Head, AllocError>
+    ensures { IfOk result (λ next. next ≡ headers.keyed key head at value.now) }
+{
+    match key {
+        Key::Module => begun_name(alloc, head, at, value),
+        Key::Library => begun_name(alloc, head, at, value),
+        Key::Files => begun_files(alloc, head, at, value),
+        Key::Other => Ok(Head {
+            name: head.name,
+            files: head.files,
+            within: Within::Other,
+            fault: head.fault,
+        }),
+    }
+}
+
+fn longer(name: Text, line: &[u8]) -> Result<Text, AllocError>
+    ensures { IfOk result (λ text. text ≡ name ++ 10 ∷ line.now) }
+{
+    let mut value = name.into_vec();
+    value.push(10)?;
+    value.extend_from_slice(line)?;
+    Ok(Text::from_vec(value))
+}
+
+fn longer_name(head: Head, line: &[u8]) -> Result<Head, AllocError>
+    ensures { IfOk result (λ next. next ≡ headers.longer_name head line.now) }
+{
+    let Head {
+        name,
+        files,
+        within,
+        fault,
+    } = head;
+    match name {
+        None => Ok(Head {
+            name: None,
+            files,
+            within,
+            fault,
+        }),
+        Some(name) => Ok(Head {
+            name: Some(longer(name, line)?),
+            files,
+            within,
+            fault,
+        }),
+    }
+}
+
+fn more_files(alloc: Global, head: Head, at: u32, line: &[u8]) -> Result<Head, AllocError>
+    ensures { IfOk result (λ next. next ≡ headers.more_files head at head.files line.now) }
+{
+    let Head {
+        name,
+        files,
+        within,
+        fault,
+    } = head;
+    match files {
+        None => Ok(Head {
+            name,
+            files: None,
+            within,
+            fault,
+        }),
+        Some(names) => {
+            let rest = Head {
+                name,
+                files: None,
+                within,
+                fault,
+            };
+            named_file(alloc, rest, at, names, trimmed(line))
+        }
+    }
+}
+
+fn continued(alloc: Global, head: Head, at: u32, line: &[u8]) -> Result<Head, AllocError>
+    ensures { IfOk result (λ next. next ≡ headers.continued head.within head at line.now) }
+{
+    match head.within {
+        Within::Nothing => Ok(faulted(head, at)),
+        Within::Name => longer_name(head, line),
+        Within::Files => more_files(alloc, head, at, line),
+        Within::Other => Ok(head),
+    }
+}
+
+fn line_read(alloc: Global, lid: bool, head: Head, at: u32, line: &[u8]) -> Result<Head, AllocError>
+    ensures { IfOk result (λ next. next ≡ headers.line_read lid head at line.now) }
+{
+    if is_continued(line) {
+        return continued(alloc, head, at, line);
+    }
+    match key_len(line) {
+        None => Ok(faulted(head, at)),
+        Some(n) => {
+            let key = key_of(alloc, lid, &line[..n])?;
+            keyed(alloc, key, head, at, &line[n + 1..])
+        }
+    }
+}
+
+/// The header, and how many bytes it has with the line that ends it.
+pub(crate) fn header(alloc: Global, lid: bool, text: &[u8]) -> Result<(Head, u32), AllocError>
+    requires { length text.now < 2 ^ 32 }
+    ensures exact { (n : ℕ) → length text.now ≤ n → IfOk result (λ r. opened r.0 r.1 (drop r.1 text.now) ≡ header_from lid n headers.start 0 text.now) }
+    ensures within { IfOk result (λ r. r.1 ≤ length text.now) }
+{
+    let mut head = Head {
+        name: None,
+        files: None,
+        within: Within::Nothing,
+        fault: None,
+    };
+    let mut at: u32 = 0;
+    let mut rest = text;
+    while 0 < rest.len() {
+        let line = line_of(rest);
+        let size = line_size(rest);
+        if is_empty_line(line) {
+            return Ok((head, at + size as u32));
+        }
+        head = line_read(alloc, lid, head, at, line)?;
+        let (_, after) = rest.split_at(size);
+        rest = after;
+        at += size as u32;
+    }
+    Ok((head, at))
 }
