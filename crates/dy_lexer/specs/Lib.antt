@@ -7,3 +7,4 @@ pub mod Tokens
 pub mod Headers
 pub mod Forms
 pub mod Cut
+pub mod Sources

@@ -3,9 +3,11 @@
 
 mod class;
 mod header;
+mod lex;
 mod literal;
 mod piece;
 mod reading;
+mod source;
 mod spelling;
 mod token;
 
