@@ -2,8 +2,9 @@
 #![tactic(auto)]
 
 mod class;
+mod files;
 mod header;
-mod lex;
+mod laws;
 mod literal;
 mod piece;
 mod reading;
@@ -11,4 +12,6 @@ mod source;
 mod spelling;
 mod token;
 
-pub use class::{Class, Piece};
+pub use files::{lex, read_lid};
+pub use laws::token_laws;
+pub use source::{Lid, Source};

@@ -74,3 +74,26 @@ fn read_source(alloc: Global, file: u32, bytes: &[u8]) -> Result<Source, Refusal
         tokens: Items::from_vec(tokens),
     })
 }
+
+/// The module and the tokens of a source file, or its first fault. Its header is read first. A fault
+/// in the header is the first one; else it is the earliest in the text after the header.
+pub fn lex(alloc: Global, file: u32, bytes: &[u8]) -> Result<Source, Refusal>
+    requires { length bytes.now < 2 ^ 32 }
+    // What is read is so cut into pieces, and a fault is the first one.
+    ensures reading { IsReading file bytes.now result }
+    // What has tokens is read, to these.
+    ensures tokens { (source : Source) → IsSource file bytes.now source → Reads result source }
+    // What has a fault is refused, with this one.
+    ensures fault { (f : Fault) → IsFirst file bytes.now f → Refuses result f }
+{
+    read_source(alloc, file, bytes)
+}
+
+/// The library and the files of a LID file, or its first fault. What follows an empty line is ignored.
+pub fn read_lid(alloc: Global, bytes: &[u8]) -> Result<Lid, Refusal>
+    requires { length bytes.now < 2 ^ 32 }
+    ensures { Gives (λ lid. lid) result (lid_of bytes.now) }
+{
+    let (head, _) = header(alloc, true, bytes)?;
+    lid_with(alloc, head)
+}
