@@ -37,8 +37,10 @@ base_not_mark c base e mark = go (eqb c 98 || eqb c 66) (eqb c 111 || eqb c 79) 
   where
     bar : (x : ℕ) → c ≡ x → begins_mark (folded_byte x) ≡ false → ⊥
     bar x same no_mark = opposite (begins_mark (folded_byte c)) mark (ap (λ (y : ℕ). begins_mark (folded_byte y)) same ∙ no_mark)
+
     either : (x y : ℕ) → begins_mark (folded_byte x) ≡ false → begins_mark (folded_byte y) ≡ false → (eqb c x || eqb c y) ≡ true → ⊥
     either x y p q h = elim (or_cases (eqb c x) (eqb c y) h) [ inl h ↦ bar x (eqb-true c x h) p | inr h ↦ bar y (eqb-true c y h) q ]
+
     go : (t u v : Bool) → (eqb c 98 || eqb c 66) ≡ t → (eqb c 111 || eqb c 79) ≡ u → (eqb c 120 || eqb c 88) ≡ v → cond t (Some 2) (cond u (Some 8) (cond v (Some 16) None)) ≡ Some base → ⊥
     go true u v f g h is = either 98 66 refl refl f
     go false true v f g h is = either 111 79 refl refl g
@@ -146,8 +148,8 @@ quoted_answers b cs (Some m) is e =
     let byte : b ≡ 35 = byte_of b Hash is in
     let (front, rest, parts, len, again) = splits (literal_step 34) false cs m e in
     best_at b (34 ∷ cs) is (λ body same open_. let tails : cs ≡ body = cc in not_none m (literal_end 34 false cs) e (rw tails open_))
-      (2 + m) (Token kinds.Symbol) (34 ∷ front) rest (ap (λ (x : List ℕ). 34 ∷ x) parts) (omega arith)
-      (inr (front, ap (λ (x : ℕ). x ∷ 34 ∷ front) byte, rw len again)) (quoted_most cs m e)
+    (2 + m) (Token kinds.Symbol) (34 ∷ front) rest (ap (λ (x : List ℕ). 34 ∷ x) parts) (omega arith)
+    (inr (front, ap (λ (x : ℕ). x ∷ 34 ∷ front) byte, rw len again)) (quoted_most cs m e)
 quoted_answers b cs None is e = inl (inr (refl, inr (inr (cs, ap (λ (x : ℕ). x ∷ 34 ∷ cs) (byte_of b Hash is), e))))
 
 -- ---- #( and #[
@@ -165,11 +167,11 @@ bracket_answers : (b c : ℕ) (cs : List ℕ) → class_of b ≡ Hash → ((c �
 bracket_answers b c cs is (inl round) =
     let byte : b ≡ 35 = byte_of b Hash is in
     best_at b (c ∷ cs) is (λ body same open_. absurd (omega (arith, heads c 34 cs body same))) 2 (Token kinds.Punctuation) (c ∷ []) cs refl refl
-      (inr (inl (rw (byte, round) refl))) (bracket_most c cs (rw round refl) (rw round refl) (λ e. absurd (omega arith)))
+    (inr (inl (rw (byte, round) refl))) (bracket_most c cs (rw round refl) (rw round refl) (λ e. absurd (omega arith)))
 bracket_answers b c cs is (inr square) =
     let byte : b ≡ 35 = byte_of b Hash is in
     best_at b (c ∷ cs) is (λ body same open_. absurd (omega (arith, heads c 34 cs body same))) 2 (Token kinds.Punctuation) (c ∷ []) cs refl refl
-      (inr (inr (rw (byte, square) refl))) (bracket_most c cs (rw square refl) (rw square refl) (λ e. absurd (omega arith)))
+    (inr (inr (rw (byte, square) refl))) (bracket_most c cs (rw square refl) (rw square refl) (λ e. absurd (omega arith)))
 
 -- ---- marks
 
@@ -227,7 +229,7 @@ module _ (b c : ℕ) (cs : List ℕ) (is : class_of b ≡ Hash) (quote : c ≡ 3
       let byte : b ≡ 35 = byte_of b Hash is in
       let (word, rest, parts, len, listed) = front_splits marks (c ∷ cs) n e in
       best_at b (c ∷ cs) is shut (1 + n) (Token kinds.Mark) word rest parts (omega arith)
-        (word, ap (λ (x : ℕ). x ∷ word) byte, listed) (mark_most c cs n e (first word rest parts listed) quote round square)
+      (word, ap (λ (x : ℕ). x ∷ word) byte, listed) (mark_most c cs n e (first word rest parts listed) quote round square)
     where
       first : (word rest : List ℕ) → c ∷ cs ≡ word ++ rest → is_listed marks (folded word) ≡ true → begins_mark (folded_byte c) ≡ true
       first [] rest parts listed = absurd cc
@@ -243,16 +245,17 @@ module _ (b c : ℕ) (cs : List ℕ) (is : class_of b ≡ Hash) (quote : c ≡ 3
       let (digits, rest, parts, len, each) = run_splits (in_base base) cs in
       let some : 0 < length digits = not_zero (prefix_len (in_base base) cs) (length digits) len zero_ in
       best_at b (c ∷ cs) is shut (2 + prefix_len (in_base base) cs) (Token kinds.Int) (c ∷ digits) rest (ap (λ (x : List ℕ). c ∷ x) parts) (omega arith)
-        (inr (c, base, digits, ap (λ (x : ℕ). x ∷ c ∷ digits) byte, of, some, each)) most
+      (inr (c, base, digits, ap (λ (x : ℕ). x ∷ c ∷ digits) byte, of, some, each)) most
     where
       not_zero : (n m : ℕ) → m ≡ n → eqb n 0 ≡ false → 0 < m
       not_zero zero m e f = absurd (false≢true (sym f ∙ eq-eqb 0 0 refl))
       not_zero (suc n) m e f = omega arith
+
       most : (k : Piece) (q gs : List ℕ) → c ∷ cs ≡ q ++ gs → After k q → Within (suc (length q)) (2 + prefix_len (in_base base) cs) k (Token kinds.Int)
       most k q gs parts h =
           let below = number_most c base cs of none quote round square k q gs parts h in
           subst (λ (x : Piece). Within (suc (length q)) (2 + prefix_len (in_base base) cs) x (Token kinds.Int)) (sym below.0)
-            (within_le (suc (length q)) (2 + prefix_len (in_base base) cs) (Token kinds.Int) (omega (arith, below.1)))
+          (within_le (suc (length q)) (2 + prefix_len (in_base base) cs) (Token kinds.Int) (omega (arith, below.1)))
 
   numbered : (r : Option ℕ) → base_of c ≡ r → front_in marks (c ∷ cs) ≡ None → Answers (number_at r cs) (b ∷ c ∷ cs)
   numbered None of none = nothing b (c ∷ cs) is shut (baseless_none c cs of none quote round square)
@@ -283,6 +286,7 @@ hash_answers b (c ∷ cs) is = go (eqb c 34) (eqb c 40 || eqb c 91) refl refl
       where
         left : c ≡ 40 → ⊥
         left same = false≢true (sym f ∙ rw (eq-eqb c 40 same) refl)
+
         right : c ≡ 91 → ⊥
         right same = or_right (eqb c 40) (eqb c 91) (eq-eqb c 91 same) f
           where

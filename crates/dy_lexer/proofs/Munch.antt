@@ -57,6 +57,7 @@ exact k piece rest h = go (piece_at (piece ++ rest)) (munch (piece ++ rest) (som
     same : (best : Piece) (n : ℕ) (p : List ℕ) → length p ≡ n → length p ≤ length piece → Within (length piece) n k best → (best ≡ k) × (n ≡ length piece)
     same best n p len below (inl less) = absurd (omega arith)
     same best n p len below (inr both) = (sym both.1, sym both.0)
+
     go : (r : Found) → Answers r (piece ++ rest) → r ≡ Ok (k, length piece)
     go (Ok (best, n)) answer =
         let below = h.longest best answer.piece answer.rest answer.parts answer.form in

@@ -108,7 +108,7 @@ call_answers b cs (Some n) is e =
     let byte : b ≡ 63 = byte_of b Question is in
     let (q, rest, parts, len, name) = name_splits cs n e in
     best_at b (61 ∷ cs) is (2 + n) (Token kinds.CallSite) (61 ∷ q) rest (ap (λ (x : List ℕ). 61 ∷ x) parts) (omega arith)
-      (q, ap (λ (x : ℕ). x ∷ 61 ∷ q) byte, name) (call_most cs n e)
+    (q, ap (λ (x : ℕ). x ∷ 61 ∷ q) byte, name) (call_most cs n e)
 call_answers b cs None is e = nothing b (61 ∷ cs) is (call_none cs e)
 
 -- ---- ?:constraint
@@ -155,7 +155,7 @@ unnamed_answers b cs (Some n) is e =
     let byte : b ≡ 63 = byte_of b Question is in
     let (word, rest, parts, len, listed) = front_splits constraints cs n e in
     best_at b (58 ∷ cs) is (2 + n) (Token kinds.PatternVar) (58 ∷ word) rest (ap (λ (x : List ℕ). 58 ∷ x) parts) (omega arith)
-      (inr (inr (word, ap (λ (x : ℕ). x ∷ 58 ∷ word) byte, listed))) (unnamed_most cs n e)
+    (inr (inr (word, ap (λ (x : ℕ). x ∷ 58 ∷ word) byte, listed))) (unnamed_most cs n e)
 unnamed_answers b cs None is e = nothing b (58 ∷ cs) is (unnamed_none cs e)
 
 -- ---- ?name and ?name:constraint
@@ -229,14 +229,14 @@ variable_found b bs n q rest is e parts len name (inl none) back =
     let byte : b ≡ 63 = byte_of b Question is in
     let zero_ : constraint_len (drop n bs) ≡ 0 = ap constraint_len back ∙ none in
     best_at b bs is (1 + n + constraint_len (drop n bs)) (Token kinds.PatternVar) q rest parts (omega arith)
-      (inl (q, ap (λ (x : ℕ). x ∷ q) byte, name)) (variable_most bs n e)
+    (inl (q, ap (λ (x : ℕ). x ∷ q) byte, name)) (variable_most bs n e)
 variable_found b bs n q rest is e parts len name (inr h) back =
     let byte : b ≡ 63 = byte_of b Question is in
     let (word, gs, colon, size, listed) = h in
     let size2 : constraint_len (drop n bs) ≡ 1 + length word = ap constraint_len back ∙ size in
     let parts2 : bs ≡ (q ++ 58 ∷ word) ++ gs = parts ∙ ap (λ (x : List ℕ). q ++ x) colon ∙ sym (append_assoc q (58 ∷ word) gs) in
     best_at b bs is (1 + n + constraint_len (drop n bs)) (Token kinds.PatternVar) (q ++ 58 ∷ word) gs parts2 (omega (arith, length-append q (58 ∷ word)))
-      (inr (inl (q, word, ap (λ (x : ℕ). x ∷ (q ++ 58 ∷ word)) byte, name, listed))) (variable_most bs n e)
+    (inr (inl (q, word, ap (λ (x : ℕ). x ∷ (q ++ 58 ∷ word)) byte, name, listed))) (variable_most bs n e)
 
 variable_answers : (b c : ℕ) (cs : List ℕ) (r : Option ℕ) → class_of b ≡ Question → name_len (c ∷ cs) ≡ r → (c ≡ 58 → ⊥) → (c ≡ 61 → ⊥) → Answers (variable_at r (c ∷ cs)) (b ∷ c ∷ cs)
 variable_answers b c cs (Some n) is e colon equals =

@@ -71,7 +71,12 @@ pub(crate) fn in_name(b: u8) -> bool
 {
     matches!(
         class_of(b),
-        Class::Letter | Class::Digit | Class::Graphic | Class::Joint | Class::Slash | Class::Question
+        Class::Letter
+            | Class::Digit
+            | Class::Graphic
+            | Class::Joint
+            | Class::Slash
+            | Class::Question
     )
 }
 

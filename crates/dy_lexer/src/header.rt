@@ -160,7 +160,11 @@ fn key_len(line: &[u8]) -> Option<usize>
         [b, rest @ ..] => {
             let n = key_run(rest);
             if is_letter(*b) {
-                if begins_colon(&rest[n..]) { Some(1 + n) } else { None }
+                if begins_colon(&rest[n..]) {
+                    Some(1 + n)
+                } else {
+                    None
+                }
             } else {
                 None
             }
@@ -308,7 +312,13 @@ fn faulted(head: Head, at: u32) -> Head
 }
 
 /// A line of the value of `files`, trimmed, after the names before it.
-fn named_file(alloc: Global, head: Head, at: u32, names: Items<Text>, name: &[u8]) -> Result<Head, AllocError>
+fn named_file(
+    alloc: Global,
+    head: Head,
+    at: u32,
+    names: Items<Text>,
+    name: &[u8],
+) -> Result<Head, AllocError>
     ensures { IfOk result (λ next. next ≡ headers.named_file head at names name.now) }
 {
     let mut names = names;
@@ -337,6 +347,7 @@ fn begun_name(alloc: Global, head: Head, at: u32, value: &[u8]) -> Result<Head, 
         within: _,
         fault,
     } = head;
+    let doubled = first_fault(fault, at);
     match name {
         None => Ok(Head {
             name: Some(Text::of(alloc, value)?),
@@ -348,7 +359,7 @@ fn begun_name(alloc: Global, head: Head, at: u32, value: &[u8]) -> Result<Head, 
             name: Some(name),
             files,
             within: Within::Other,
-            fault: first_fault(fault, at),
+            fault: doubled,
         }),
     }
 }
@@ -362,6 +373,7 @@ fn begun_files(alloc: Global, head: Head, at: u32, value: &[u8]) -> Result<Head,
         within,
         fault,
     } = head;
+    let repeated = first_fault(fault, at);
     match files {
         None => {
             let rest = Head {
@@ -376,7 +388,7 @@ fn begun_files(alloc: Global, head: Head, at: u32, value: &[u8]) -> Result<Head,
             name,
             files: Some(names),
             within: Within::Other,
-            fault: first_fault(fault, at),
+            fault: repeated,
         }),
     }
 }

@@ -25,5 +25,4 @@ pub fn token_laws()
     ensures apart { (file at : ℕ) (text : List ℕ) (ts : List Token) (f : Fault) → Cut file at text ts → Broken file at text f → ⊥ }
     // The next piece of a text is one, of one kind.
     ensures next { (kind : Piece) (piece rest : List ℕ) → Begins kind piece rest → piece_at (piece ++ rest) ≡ Ok (kind, length piece) }
-{
-}
+{}

@@ -10,6 +10,8 @@ mod piece;
 mod reading;
 mod source;
 mod spelling;
+#[cfg(test)]
+mod tests;
 mod token;
 
 pub use files::{lex, read_lid};

@@ -107,7 +107,11 @@ fn spelling_step(tabs: bool, state: Spelling, b: u8) -> Read
 }
 
 /// What the characters stand for, after what is there already; nothing where one is misspelled.
-pub(crate) fn decoded(tabs: bool, into: Vec<u8>, bytes: &[u8]) -> Result<Option<Vec<u8>>, AllocError>
+pub(crate) fn decoded(
+    tabs: bool,
+    into: Vec<u8>,
+    bytes: &[u8],
+) -> Result<Option<Vec<u8>>, AllocError>
     ensures { IfOk result (λ v. option_map (λ w. w.items) v ≡ appended into.items (decoded tabs bytes.now)) }
 {
     let mut values = into;

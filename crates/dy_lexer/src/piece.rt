@@ -78,8 +78,12 @@ fn sign_of_one(a: u8) -> Option<TokenKind>
     ensures { result ≡ sign_of (a ∷ []) }
 {
     match a {
-        b'+' | b'-' | b'*' | b'/' | b'^' | b'=' | b'<' | b'>' | b'&' | b'|' | b'~' => Some(TokenKind::Operator),
-        b'(' | b')' | b'[' | b']' | b'{' | b'}' | b',' | b';' | b'.' => Some(TokenKind::Punctuation),
+        b'+' | b'-' | b'*' | b'/' | b'^' | b'=' | b'<' | b'>' | b'&' | b'|' | b'~' => Some(
+            TokenKind::Operator,
+        ),
+        b'(' | b')' | b'[' | b']' | b'{' | b'}' | b',' | b';' | b'.' => Some(
+            TokenKind::Punctuation,
+        ),
         _ => None,
     }
 }
@@ -88,7 +92,9 @@ fn sign_of_two(a: u8, b: u8) -> Option<TokenKind>
     ensures { result ≡ sign_of (a ∷ b ∷ []) }
 {
     match (a, b) {
-        (b'=', b'=') | (b'~', b'=') | (b'<', b'=') | (b'>', b'=') | (b':', b'=') => Some(TokenKind::Operator),
+        (b'=', b'=') | (b'~', b'=') | (b'<', b'=') | (b'>', b'=') | (b':', b'=') => Some(
+            TokenKind::Operator,
+        ),
         (b':', b':') | (b'=', b'>') => Some(TokenKind::Punctuation),
         _ => None,
     }

@@ -32,7 +32,11 @@ fn nameless_after(bare: usize, n: usize, bytes: &[u8]) -> usize
     requires within { n ≤ length bytes.now }
     ensures { IsNameless result (drop n bytes.now) }
 {
-    if n < bare { bare - n } else { nameless(&bytes[n..]) }
+    if n < bare {
+        bare - n
+    } else {
+        nameless(&bytes[n..])
+    }
 }
 
 /// The tokens of the text that begins at an offset of a file, or the first fault in it.
