@@ -7,8 +7,10 @@ use Rattle.dy_tree.specs.declared.token.Token.{Token}
 use Rattle.dy_lexer.specs.declared.source.Source.{Source}
 use Rattle.dy_lexer.specs.Tokens.{Tokens, Gives, tokens_of, joined, joined_after}
 use Rattle.dy_lexer.specs.Cut.{Cut, Broken, Judged}
-use Rattle.dy_lexer.specs.Headers.{Opened}
-use Rattle.dy_lexer.specs.Sources.{wanted, header_of, header_fault, source, with_module, source_of, IsSource, IsFirst, IsReading, Reads, Refuses}
+use Rattle.dy_lexer.specs.Headers.{Opened, opened}
+use Rattle.dy_lexer.specs.Sources.{wanted, header_of, header_fault, source, with_module, source_after, source_of, IsSource, IsAfter, IsFirst, IsReading, Reads, Refuses}
+use Rattle.dy_lexer.specs.declared.header.Head.{Head}
+use Rattle.dy_lexer.proofs.HeaderLines.{header_is, some_header}
 use Rattle.dy_lexer.proofs.Whole.{judged, complete, complete_fault}
 
 abbrev Sourced : Type 0
@@ -45,19 +47,28 @@ reading file text (Ok s) e =
     let (name, pieces, header, read, is) = from_ok file (wanted o.head.name o.head.fault) (tokens_of (length o.body) file o.at o.body) s e in
     let judge = judged (length o.body) file o.at o.body (omega arith) in
     record {
+      head = o.head;
+      at = o.at;
+      body = o.body;
       pieces = pieces;
-      header = header ∙ ap (λ (x : Source). Ok x.«module») (sym is);
+      header = some_header false text;
+      name = header ∙ ap (λ (x : Source). Ok x.«module») (sym is);
       cut = subst (Judged file o.at o.body) read judge;
       tokens = ap (λ (x : Source). x.tokens) is;
     }
-reading file text (Err (refusals.Fault f)) e = go (from_err file (wanted (header_of false text).head.name (header_of false text).head.fault) (tokens_of (length (header_of false text).body) file (header_of false text).at (header_of false text).body) f e)
+reading file text (Err (refusals.Fault f)) e =
+    let o = header_of false text in
+    record {
+      head = o.head;
+      at = o.at;
+      body = o.body;
+      header = some_header false text;
+      first = go (header_of false text) (from_err file (wanted o.head.name o.head.fault) (tokens_of (length o.body) file o.at o.body) f e);
+    }
   where
-    go : FromErr file (wanted (header_of false text).head.name (header_of false text).head.fault) (tokens_of (length (header_of false text).body) file (header_of false text).at (header_of false text).body) f → IsFirst file text f
-    go (inl h) = inl h
-    go (inr h) =
-        let (name, header, read) = h in
-        let o = header_of false text in
-        inr (name, header, subst (Judged file o.at o.body) read (judged (length o.body) file o.at o.body (omega arith)))
+    go : (o : Opened) → FromErr file (wanted o.head.name o.head.fault) (tokens_of (length o.body) file o.at o.body) f → IsAfter file o.head o.at o.body f
+    go o (inl h) = inl h
+    go o (inr h) = let (name, header, read) = h in inr (name, header, subst (Judged file o.at o.body) read (judged (length o.body) file o.at o.body (omega arith)))
 reading file text (Err refusals.Memory) e = tt
 
 sourced : (file : ℕ) (w : Result (List ℕ) ℕ) (t : Tokens) (s : Source) (pieces : List Token) → w ≡ Ok s.«module» → t ≡ Ok pieces → s.tokens ≡ joined pieces
@@ -66,17 +77,19 @@ sourced file w t s pieces e f g = rw (e, f) (ap (λ (x : List Token). Ok (source
 
 source_is : (file : ℕ) (text : List ℕ) (s : Source) → IsSource file text s → source_of file text ≡ Ok s
 source_is file text s h =
-    let o = header_of false text in
-    let read = complete file (length o.body) o.at o.body h.pieces (omega arith) h.cut in
-    sourced file (wanted o.head.name o.head.fault) (tokens_of (length o.body) file o.at o.body) s h.pieces h.header read h.tokens
+    let same = header_is false text h.head h.at h.body h.header in
+    let read = complete file (length h.body) h.at h.body h.pieces (omega arith) h.cut in
+    ap (source_after file) same ∙ sourced file (wanted h.head.name h.head.fault) (tokens_of (length h.body) file h.at h.body) s h.pieces h.name read h.tokens
+
+after_is : (file : ℕ) (head : Head) (at : ℕ) (body : List ℕ) (f : Fault) → IsAfter file head at body f → source_after file (opened head at body) ≡ Err f
+after_is file head at body f (inl h) = let (line, header, is) = h in rw (header, is) refl
+after_is file head at body f (inr h) =
+    let (name, header, broken) = h in
+    let read = complete_fault file (length body) at body f (omega arith) broken in
+    rw (header, read) refl
 
 first_is : (file : ℕ) (text : List ℕ) (f : Fault) → IsFirst file text f → source_of file text ≡ Err f
-first_is file text f (inl h) = let (at, header, is) = h in rw (header, is) refl
-first_is file text f (inr h) =
-    let (name, header, broken) = h in
-    let o = header_of false text in
-    let read = complete_fault file (length o.body) o.at o.body f (omega arith) broken in
-    rw (header, read) refl
+first_is file text f h = ap (source_after file) (header_is false text h.head h.at h.body h.header) ∙ after_is file h.head h.at h.body f h.first
 
 pub reads : (file : ℕ) (text : List ℕ) (r : Result Source Refusal) (s : Source) → Gives (λ x. x) r (source_of file text) → IsSource file text s → Reads r s
 reads file text (Ok x) s e h = ok_source x s (source_of file text) e (source_is file text s h)

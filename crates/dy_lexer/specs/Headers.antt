@@ -1,5 +1,5 @@
 -- Headers of source files and of LID files (DRM, appendix "Dylan interchange format"; own in the parts that are marked so).
-use Rattle.std.specs.Prelude.{◌≡◌, ℕ, zero, suc, ◌+◌, ◌-◌, Bool, true, false, ◌&&◌, ◌||◌, ◌==◌, nat_le, nat_lt, if◌then◌else◌, List, [], ◌∷◌, ◌++◌, take, drop, length, codes, Result, Ok, Err, Option, Some, None}
+use Rattle.std.specs.Prelude.{◌≡◌, ℕ, zero, suc, ◌+◌, ◌-◌, ◌<◌, ◌⊎◌, Bool, true, false, ◌&&◌, ◌||◌, ◌==◌, nat_le, nat_lt, if◌then◌else◌, List, [], ◌∷◌, ◌++◌, take, drop, length, codes, Result, Ok, Err, Option, Some, None}
 use Rattle.std.specs.List.{prefix_len}
 use Rattle.dy_base.specs.Folding.{folded}
 use Rattle.dy_lexer.specs.declared.header.Key.{Key}
@@ -171,3 +171,39 @@ header_from lid (suc n) head at [] = opened head at []
 header_from lid (suc n) head at (b ∷ bs) =
     if is_empty_line (line_of (b ∷ bs)) then opened head (at + line_size (b ∷ bs)) (drop (line_size (b ∷ bs)) (b ∷ bs))
     else header_from lid n (line_read lid head at (line_of (b ∷ bs))) (at + line_size (b ∷ bs)) (drop (line_size (b ∷ bs)) (b ∷ bs))
+
+-- ---- the header as a relation on lines
+
+-- a line of a text, with its place
+pub record Line : Type 0 where
+  pub at : ℕ
+  pub bytes : List ℕ
+
+-- each byte passes
+abbrev pub AllIn : (ℕ → Bool) → List ℕ → Type 0
+AllIn p [] = Unit {0}
+AllIn p (b ∷ bs) = (p b ≡ true) × AllIn p bs
+
+-- the text begins with this line and its end, which together have a size; then the rest follows
+abbrev pub IsLine : List ℕ → ℕ → List ℕ → List ℕ → Type 0
+IsLine text size line rest =
+    AllIn in_line line
+    × (((text ≡ line ++ 10 ∷ rest) × (size ≡ length line + 1) × (ends_return line ≡ false))
+      ⊎ (((text ≡ line ++ 13 ∷ 10 ∷ rest) × (size ≡ length line + 2)) ⊎ ((text ≡ line) × (size ≡ length line) × (rest ≡ []))))
+
+-- from an offset on the text is the lines of a header, up to an empty line or the end; where its body begins, and the body
+pub data Lines : ℕ → List ℕ → List Line → ℕ → List ℕ → Type 0 where
+  ends : (at : ℕ) → Lines at [] [] at []
+  empty : (at : ℕ) (text line body : List ℕ) (size end : ℕ) → 0 < length text → IsLine text size line body → is_empty_line line ≡ true → end ≡ at + size → Lines at text [] end body
+  goes : (at : ℕ) (text line rest : List ℕ) (size : ℕ) (lines all : List Line) (end : ℕ) (body : List ℕ)
+      → 0 < length text → IsLine text size line rest → is_empty_line line ≡ false → Lines (at + size) rest lines end body
+      → all ≡ record { at = at; bytes = line } ∷ lines → Lines at text all end body
+
+-- the lines in order
+abbrev pub lines_read : Bool → Head → List Line → Head
+lines_read lid head [] = head
+lines_read lid head (line ∷ lines) = lines_read lid (line_read lid head line.at line.bytes) lines
+
+-- the header of a whole file
+abbrev pub IsHeader : Bool → List ℕ → Head → ℕ → List ℕ → Type 0
+IsHeader lid text head at body = (lines : List Line) × Lines 0 text lines at body × (head ≡ lines_read lid start lines)

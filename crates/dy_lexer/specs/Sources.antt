@@ -11,7 +11,7 @@ use Rattle.dy_lexer.specs.declared.source.Lid.{Lid}
 use Rattle.dy_lexer.specs.declared.header.Head.{Head}
 use Rattle.dy_lexer.specs.Tokens.{Tokens, fault_at, tokens_of, joined, joined_after}
 use Rattle.dy_lexer.specs.Cut.{place_of, Cut, Broken}
-use Rattle.dy_lexer.specs.Headers.{trimmed, start, Opened, header_from}
+use Rattle.dy_lexer.specs.Headers.{trimmed, start, Opened, header_from, IsHeader}
 
 -- the header of a whole file
 abbrev pub header_of : Bool → List ℕ → Opened
@@ -44,16 +44,28 @@ source_of file text = source_after file (header_of false text)
 
 -- the header gives the module, and the text after it is cut into pieces with these tokens, adjacent strings joined
 pub record IsSource (file : ℕ) (text : List ℕ) (s : Source) : Type 0 where
+  pub head : Head
+  pub at : ℕ
+  pub body : List ℕ
   pub pieces : List Token
-  pub header : wanted (header_of false text).head.name (header_of false text).head.fault ≡ Ok s.«module»
-  pub cut : Cut file (header_of false text).at (header_of false text).body pieces
+  pub header : IsHeader false text head at body
+  pub name : wanted head.name head.fault ≡ Ok s.«module»
+  pub cut : Cut file at body pieces
   pub tokens : s.tokens ≡ joined pieces
 
--- the first fault: in the header, and else in the text after it
-abbrev pub IsFirst : ℕ → List ℕ → Fault → Type 0
-IsFirst file text f =
-    ((at : ℕ) × (wanted (header_of false text).head.name (header_of false text).head.fault ≡ Err at) × (f ≡ header_fault file at))
-    ⊎ ((name : List ℕ) × (wanted (header_of false text).head.name (header_of false text).head.fault ≡ Ok name) × Broken file (header_of false text).at (header_of false text).body f)
+-- a fault of the header, else the first one of the text after it
+abbrev pub IsAfter : ℕ → Head → ℕ → List ℕ → Fault → Type 0
+IsAfter file head at body f =
+    ((line : ℕ) × (wanted head.name head.fault ≡ Err line) × (f ≡ header_fault file line))
+    ⊎ ((name : List ℕ) × (wanted head.name head.fault ≡ Ok name) × Broken file at body f)
+
+-- the first fault of a source file
+pub record IsFirst (file : ℕ) (text : List ℕ) (f : Fault) : Type 0 where
+  pub head : Head
+  pub at : ℕ
+  pub body : List ℕ
+  pub header : IsHeader false text head at body
+  pub first : IsAfter file head at body f
 
 -- what a call gave is the source file, or its first fault; want of memory says nothing
 abbrev pub IsReading : ℕ → List ℕ → Result Source Refusal → Type 0
@@ -91,3 +103,26 @@ placed file (Err at) = Err (header_fault file at)
 
 abbrev pub lid_of : List ℕ → Result Lid Fault
 lid_of text = placed 0 (lid_from (header_of true text).head.name (header_of true text).head.files (header_of true text).head.fault)
+
+-- the header gives the library and the file names
+pub record IsLid (text : List ℕ) (l : Lid) : Type 0 where
+  pub head : Head
+  pub at : ℕ
+  pub body : List ℕ
+  pub header : IsHeader true text head at body
+  pub values : lid_from head.name head.files head.fault ≡ Ok l
+
+pub record IsLidFault (text : List ℕ) (f : Fault) : Type 0 where
+  pub head : Head
+  pub at : ℕ
+  pub body : List ℕ
+  pub line : ℕ
+  pub header : IsHeader true text head at body
+  pub values : lid_from head.name head.files head.fault ≡ Err line
+  pub fault : f ≡ header_fault 0 line
+
+-- what a call gave is the LID file, or its first fault
+abbrev pub IsLidReading : List ℕ → Result Lid Refusal → Type 0
+IsLidReading text (Ok l) = IsLid text l
+IsLidReading text (Err (refusals.Fault f)) = IsLidFault text f
+IsLidReading text (Err refusals.Memory) = Unit {0}

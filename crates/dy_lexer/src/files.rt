@@ -3,9 +3,10 @@
 ghost use Rattle.std.specs.Prelude.{◌≡◌, ◌+◌, ◌<◌, ◌^◌, length, ℕ};
 ghost use Rattle.dy_base.specs.declared.fault.Fault.{Fault};
 ghost use Rattle.dy_lexer.specs.declared.source.Source.{Source};
+ghost use Rattle.dy_lexer.specs.declared.source.Lid.{Lid};
 ghost use Rattle.dy_lexer.specs.Tokens.{Gives};
 ghost use Rattle.dy_lexer.specs.Sources as sources;
-ghost use Rattle.dy_lexer.specs.Sources.{wanted, placed, lid_from, lid_of, source_of, IsSource, IsFirst, IsReading, Reads, Refuses};
+ghost use Rattle.dy_lexer.specs.Sources.{wanted, placed, lid_from, lid_of, source_of, IsSource, IsFirst, IsReading, IsLid, IsLidFault, IsLidReading, Reads, Refuses};
 
 use crate::header::{Head, header, trimmed};
 use crate::reading::tokens_of;
@@ -89,11 +90,24 @@ pub fn lex(alloc: Global, file: u32, bytes: &[u8]) -> Result<Source, Refusal>
     read_source(alloc, file, bytes)
 }
 
-/// The library and the files of a LID file, or its first fault. What follows an empty line is ignored.
-pub fn read_lid(alloc: Global, bytes: &[u8]) -> Result<Lid, Refusal>
+fn read_lid_file(alloc: Global, bytes: &[u8]) -> Result<Lid, Refusal>
     requires { length bytes.now < 2 ^ 32 }
     ensures { Gives (λ lid. lid) result (lid_of bytes.now) }
 {
     let (head, _) = header(alloc, true, bytes)?;
     lid_with(alloc, head)
+}
+
+/// The library and the files of a LID file, or its first fault, whose place has the file number 0. What
+/// follows an empty line is ignored.
+pub fn read_lid(alloc: Global, bytes: &[u8]) -> Result<Lid, Refusal>
+    requires { length bytes.now < 2 ^ 32 }
+    // What is read is what the header says, and a fault is the first one.
+    ensures reading { IsLidReading bytes.now result }
+    // What says this is read.
+    ensures lid { (lid : Lid) → IsLid bytes.now lid → Reads result lid }
+    // What has a fault is refused, with this one.
+    ensures fault { (f : Fault) → IsLidFault bytes.now f → Refuses result f }
+{
+    read_lid_file(alloc, bytes)
 }
