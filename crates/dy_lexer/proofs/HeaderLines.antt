@@ -81,7 +81,7 @@ line_is text line rest size (all, inl h) =
     let fed = line_fed line rest all in
     let kept : without_return line ≡ line = rw plain refl in
     let back : drop (length line + 1) (line ++ 10 ∷ rest) ≡ rest =
-        ap (drop (length line + 1)) (sym (append_assoc line (10 ∷ []) rest)) ∙ drop_at (line ++ 10 ∷ []) rest (length line + 1) (length-append line (10 ∷ [])) in
+    ap (drop (length line + 1)) (sym (append_assoc line (10 ∷ []) rest)) ∙ drop_at (line ++ 10 ∷ []) rest (length line + 1) (length-append line (10 ∷ [])) in
     (ap line_of parts ∙ fed.0 ∙ kept, ap line_size parts ∙ fed.1 ∙ sym len, rw (len, parts) back)
 line_is text line rest size (all, inr (inl h)) =
     let (parts, len) = h in
@@ -89,7 +89,7 @@ line_is text line rest size (all, inr (inl h)) =
     let parts2 : text ≡ (line ++ 13 ∷ []) ++ 10 ∷ rest = parts ∙ sym (append_assoc line (13 ∷ []) (10 ∷ rest)) in
     let size2 = length-append line (13 ∷ []) in
     let back : drop (length line + 2) (line ++ 13 ∷ 10 ∷ rest) ≡ rest =
-        ap (drop (length line + 2)) (sym (append_assoc line (13 ∷ 10 ∷ []) rest)) ∙ drop_at (line ++ 13 ∷ 10 ∷ []) rest (length line + 2) (length-append line (13 ∷ 10 ∷ [])) in
+    ap (drop (length line + 2)) (sym (append_assoc line (13 ∷ 10 ∷ []) rest)) ∙ drop_at (line ++ 13 ∷ 10 ∷ []) rest (length line + 2) (length-append line (13 ∷ 10 ∷ [])) in
     (ap line_of parts2 ∙ fed.0 ∙ return_dropped line, ap line_size parts2 ∙ fed.1 ∙ omega arith, rw (len, parts) back)
 line_is text line rest size (all, inr (inr h)) =
     let (parts, len, none) = h in

@@ -189,7 +189,7 @@ abbrev pub IsLine : List ℕ → ℕ → List ℕ → List ℕ → Type 0
 IsLine text size line rest =
     AllIn in_line line
     × (((text ≡ line ++ 10 ∷ rest) × (size ≡ length line + 1) × (ends_return line ≡ false))
-      ⊎ (((text ≡ line ++ 13 ∷ 10 ∷ rest) × (size ≡ length line + 2)) ⊎ ((text ≡ line) × (size ≡ length line) × (rest ≡ []))))
+    ⊎ (((text ≡ line ++ 13 ∷ 10 ∷ rest) × (size ≡ length line + 2)) ⊎ ((text ≡ line) × (size ≡ length line) × (rest ≡ []))))
 
 -- from an offset on the text is the lines of a header, up to an empty line or the end; where its body begins, and the body
 pub data Lines : ℕ → List ℕ → List Line → ℕ → List ℕ → Type 0 where

@@ -4,6 +4,7 @@ use crate::{lex, read_lid};
 use dy_base::{Fault, Refusal};
 use dy_tree::Token;
 use std::alloc::{AllocError, Global};
+use std::process::Abort;
 use std::test::Fail;
 
 /// Printable bytes as they are, others and `\` as `\` and two digits.
@@ -88,7 +89,7 @@ fn lid_shown(alloc: Global, bytes: &[u8]) -> Result<String, AllocError> {
     Ok(out)
 }
 
-static TOKENS: [(&[u8], &str); 128] = [
+static NAMES: [(&[u8], &str); 12] = [
     (b"a B1 <c>", "Name a @0; Name b1 @2; Name <c> @5; "),
     (
         b"*d* $e !f &g >h |i ^j %k @l _m",
@@ -107,6 +108,9 @@ static TOKENS: [(&[u8], &str); 128] = [
     (b"\\| y", "BadByte @0"),
     (b"\\", "BadByte @0"),
     (b"\\ a", "BadByte @0"),
+];
+
+static SYMBOLS: [(&[u8], &str); 12] = [
     (b"a:", "Symbol a @0; "),
     (b"A: b", "Symbol a @0; Name b @3; "),
     (b"a::", "Name a @0; Punctuation :: @1; "),
@@ -119,6 +123,9 @@ static TOKENS: [(&[u8], &str); 128] = [
     (b"#\"\\n\\<41>\"", "Symbol \\0aa @0; "),
     (b"#\"a\tb\"", "BadLiteral @0"),
     (b"#\"a\n\"", "OpenString @0"),
+];
+
+static INTEGERS: [(&[u8], &str); 20] = [
     (b"0 12 007", "Int 0 @0; Int 12 = 12 @2; Int 007 = 7 @5; "),
     (
         b"9223372036854775807",
@@ -148,6 +155,9 @@ static TOKENS: [(&[u8], &str); 128] = [
     (b"-1", "Operator - @0; Int 1 = 1 @1; "),
     (b"#x", "BadLiteral @0"),
     (b"#b2", "BadLiteral @0"),
+];
+
+static CHARACTERS: [(&[u8], &str); 20] = [
     (b"'a' ' ' '\"'", "Char a @0; Char   @4; Char \" @8; "),
     (
         b"'\\\\' '\\\"' '\\''",
@@ -177,6 +187,9 @@ static TOKENS: [(&[u8], &str); 128] = [
     (b"'a\n'", "OpenString @0"),
     (b"'ab\n", "OpenString @0"),
     (b"'\\'", "OpenString @0"),
+];
+
+static STRINGS: [(&[u8], &str); 15] = [
     (b"\"\"", "Str  @0; "),
     (b"\"a\tb'c\"", "Str a\\09b'c @0; "),
     (b"\"\\\\\\\"\\'\\n\\<41>\"", "Str \\5c\"'\\0aA @0; "),
@@ -195,6 +208,9 @@ static TOKENS: [(&[u8], &str); 128] = [
     (b"\"\\q", "OpenString @0"),
     (b"\"a\\\n\"", "OpenString @0"),
     (b"\"\x01\"", "BadLiteral @0"),
+];
+
+static MARKS: [(&[u8], &str); 18] = [
     (
         b"#t #f #next #rest #key #all-keys",
         "Mark #t @0; Mark #f @3; Mark #next @6; Mark #rest @12; Mark #key @18; Mark #all-keys @23; ",
@@ -222,6 +238,9 @@ static TOKENS: [(&[u8], &str); 128] = [
     (b"?", "BadLiteral @0"),
     (b"a ? b", "BadLiteral @2"),
     (b"?=1", "BadLiteral @0"),
+];
+
+static SIGNS: [(&[u8], &str); 17] = [
     (
         b"+ - * / ^ = == ~= ~== < > <= >= & | := ~",
         "Operator + @0; Operator - @2; Operator * @4; Operator / @6; Operator ^ @8; Operator = @10; Operator == @12; Operator ~= @15; Operator ~== @18; Operator < @22; Operator > @24; Operator <= @26; Operator >= @29; Operator & @32; Operator | @34; Operator := @36; Operator ~ @39; ",
@@ -231,8 +250,8 @@ static TOKENS: [(&[u8], &str); 128] = [
         "Punctuation ( @0; Punctuation ) @1; Punctuation [ @2; Punctuation ] @3; Punctuation { @4; Punctuation } @5; Punctuation , @6; Punctuation ; @7; Punctuation . @8; ",
     ),
     (
-        b":: => ... #( #[",
-        "Punctuation :: @0; Punctuation => @3; Punctuation ... @6; Punctuation #( @10; Punctuation #[ @13; ",
+        b":: => ... #(#[",
+        "Punctuation :: @0; Punctuation => @3; Punctuation ... @6; Punctuation #(@10; Punctuation #[ @13; ",
     ),
     (b"===>", "Operator == @0; Punctuation => @2; "),
     (b"....", "Punctuation ... @0; Punctuation . @3; "),
@@ -251,6 +270,9 @@ static TOKENS: [(&[u8], &str); 128] = [
     (b"a\x00", "BadByte @1"),
     (b"a \xe4", "BadByte @2"),
     (b"\x0b", "BadByte @0"),
+];
+
+static BLANKS: [(&[u8], &str); 14] = [
     (b" \t\x0c\r\n", ""),
     (b"a\rb", "Name a @0; Name b @2; "),
     (b"a // b ' \" /* \xe4\nc", "Name a @0; Name c @16; "),
@@ -325,13 +347,52 @@ static LIDS: [(&[u8], &str); 17] = [
     (b"library: l\nbad\nfiles: a\n", "BadHeader @11"),
 ];
 
-#[test]
-fn tokens(rt: HostRuntime) -> Result<(), Fail> {
-    for (body, wanted) in &TOKENS {
+fn bodies_hold(rt: &(impl Abort + AllocGlobal), rows: &[(&[u8], &str)]) -> Result<(), Fail> {
+    for (body, wanted) in rows {
         let got = body_shown(rt.alloc(), body)?;
         assert!(rt; got.as_str() == *wanted, "{body:?} gave {got}");
     }
     Ok(())
+}
+
+#[test]
+fn names(rt: HostRuntime) -> Result<(), Fail> {
+    bodies_hold(&rt, &NAMES)
+}
+
+#[test]
+fn symbols(rt: HostRuntime) -> Result<(), Fail> {
+    bodies_hold(&rt, &SYMBOLS)
+}
+
+#[test]
+fn integers(rt: HostRuntime) -> Result<(), Fail> {
+    bodies_hold(&rt, &INTEGERS)
+}
+
+#[test]
+fn characters(rt: HostRuntime) -> Result<(), Fail> {
+    bodies_hold(&rt, &CHARACTERS)
+}
+
+#[test]
+fn strings(rt: HostRuntime) -> Result<(), Fail> {
+    bodies_hold(&rt, &STRINGS)
+}
+
+#[test]
+fn marks(rt: HostRuntime) -> Result<(), Fail> {
+    bodies_hold(&rt, &MARKS)
+}
+
+#[test]
+fn signs(rt: HostRuntime) -> Result<(), Fail> {
+    bodies_hold(&rt, &SIGNS)
+}
+
+#[test]
+fn blanks(rt: HostRuntime) -> Result<(), Fail> {
+    bodies_hold(&rt, &BLANKS)
 }
 
 #[test]
