@@ -7,7 +7,7 @@ use std::alloc::{AllocError, Global};
 use std::marker::Model;
 
 /// A name, folded: its ASCII letters are in lower case.
-#[derive(Debug, Drop)]
+#[derive(Clone, Debug, Drop)]
 pub struct Name {
     bytes: Vec<u8>,
 }

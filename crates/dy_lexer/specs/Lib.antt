@@ -1,0 +1,10 @@
+pub mod Bytes
+pub mod Words
+pub mod Scan
+pub mod Literals
+pub mod Pieces
+pub mod Tokens
+pub mod Headers
+pub mod Forms
+pub mod Cut
+pub mod Sources

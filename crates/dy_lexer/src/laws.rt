@@ -1,0 +1,28 @@
+//! Laws of the tokens of texts.
+
+ghost use Rattle.std.specs.Prelude.{◌≡◌, ℕ, ◌≤◌, ◌++◌, List, length, Ok, Err};
+ghost use Rattle.dy_base.specs.declared.fault.Fault.{Fault};
+ghost use Rattle.dy_tree.specs.declared.token.Token.{Token};
+ghost use Rattle.dy_lexer.specs.declared.class.Piece.{Piece};
+ghost use Rattle.dy_lexer.specs.Pieces.{piece_at};
+ghost use Rattle.dy_lexer.specs.Forms.{Begins};
+ghost use Rattle.dy_lexer.specs.Tokens.{tokens_of};
+ghost use Rattle.dy_lexer.specs.Cut.{Cut, Broken, Judged};
+
+/// What holds of the tokens of every text.
+pub fn token_laws()
+    // What is read is cut into pieces so, and a fault is the first one.
+    ensures judged { (n file at : ℕ) (text : List ℕ) → length text ≤ n → Judged file at text (tokens_of n file at text) }
+    // What is so cut is read.
+    ensures cut { (file n at : ℕ) (text : List ℕ) (ts : List Token) → length text ≤ n → Cut file at text ts → tokens_of n file at text ≡ Ok ts }
+    // What has a first fault is refused with it.
+    ensures broken { (file n at : ℕ) (text : List ℕ) (f : Fault) → length text ≤ n → Broken file at text f → tokens_of n file at text ≡ Err f }
+    // No text has two lists of tokens.
+    ensures one { (file at : ℕ) (text : List ℕ) (ts us : List Token) → Cut file at text ts → Cut file at text us → ts ≡ us }
+    // No text has two first faults.
+    ensures one_fault { (file at : ℕ) (text : List ℕ) (f g : Fault) → Broken file at text f → Broken file at text g → f ≡ g }
+    // No text has tokens and a fault.
+    ensures apart { (file at : ℕ) (text : List ℕ) (ts : List Token) (f : Fault) → Cut file at text ts → Broken file at text f → ⊥ }
+    // The next piece of a text is one, of one kind.
+    ensures next { (kind : Piece) (piece rest : List ℕ) → Begins kind piece rest → piece_at (piece ++ rest) ≡ Ok (kind, length piece) }
+{}

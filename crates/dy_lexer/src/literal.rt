@@ -1,0 +1,189 @@
+//! What literals stand for.
+
+ghost use Rattle.std.specs.Prelude.{◌≡◌, ◌∷◌, [], ◌+◌, ◌*◌, ◌++◌, ◌≤◌, ◌<◌, ◌^◌, length, drop, IfOk, IfSome, option_map, pos};
+ghost use Rattle.dy_base.specs.Folding.{folded};
+ghost use Rattle.dy_lexer.specs.Bytes as bytes;
+ghost use Rattle.dy_lexer.specs.Scan.{escape_of, is_plain, decoded, spelling_step, IsSmall, IsSmallRead};
+ghost use Rattle.dy_lexer.specs.Literals.{appended};
+ghost use Rattle.dy_lexer.specs.Tokens.{value_from, value_of, value_after_hash, fitting, or_zero};
+
+use crate::class::{base_of, digit_of};
+use crate::spelling::{Read, Spelling};
+use dy_base::Text;
+use std::alloc::{AllocError, Global};
+
+fn lower_case(alloc: Global, bytes: &[u8]) -> Result<Vec<u8>, AllocError>
+    ensures { IfOk result (λ lower. lower.items ≡ folded bytes.now) }
+{
+    bytes
+        .iter()
+        .map(|byte| byte.to_ascii_lowercase())
+        .collect(alloc)
+}
+
+/// The text of these bytes in lower case.
+pub(crate) fn folded(alloc: Global, bytes: &[u8]) -> Result<Text, AllocError>
+    ensures { IfOk result (λ text. text ≡ folded bytes.now) }
+{
+    Ok(Text::from_vec(lower_case(alloc, bytes)?))
+}
+
+/// What a character after a backslash stands for.
+fn escape_of(b: u8) -> Option<u8>
+    ensures { result ≡ escape_of b }
+{
+    match b {
+        b'\\' | b'"' | b'\'' => Some(b),
+        b'n' => Some(10),
+        b'r' => Some(13),
+        b't' => Some(9),
+        b'0' => Some(0),
+        b'a' => Some(7),
+        b'b' => Some(8),
+        b'e' => Some(27),
+        b'f' => Some(12),
+        _ => None,
+    }
+}
+
+fn is_plain(tabs: bool, b: u8) -> bool
+    ensures { result ≡ is_plain tabs b }
+{
+    match b {
+        9 => tabs,
+        0..=31 => false,
+        127 => false,
+        _ => true,
+    }
+}
+
+fn spelling_step(tabs: bool, state: Spelling, b: u8) -> Read
+    requires { IsSmall state }
+    ensures value { result ≡ spelling_step tabs state b }
+    ensures small { IsSmallRead result }
+{
+    match state {
+        Spelling::Plain => {
+            if b == b'\\' {
+                Read::GoesOn(Spelling::Escape)
+            } else if is_plain(tabs, b) {
+                Read::Value(b)
+            } else {
+                Read::Wrong
+            }
+        }
+        Spelling::Escape => {
+            if b == b'<' {
+                Read::GoesOn(Spelling::Open)
+            } else {
+                match escape_of(b) {
+                    Some(v) => Read::Value(v),
+                    None => Read::Wrong,
+                }
+            }
+        }
+        Spelling::Open => match digit_of(b) {
+            Some(v) => Read::GoesOn(Spelling::Digit(v)),
+            None => Read::Wrong,
+        },
+        Spelling::Digit(v) => {
+            if b == b'>' {
+                Read::Value(v)
+            } else {
+                match digit_of(b) {
+                    Some(w) => Read::GoesOn(Spelling::Digits(16 * v + w)),
+                    None => Read::Wrong,
+                }
+            }
+        }
+        Spelling::Digits(v) => {
+            if b == b'>' {
+                Read::Value(v)
+            } else {
+                Read::Wrong
+            }
+        }
+    }
+}
+
+/// What the characters stand for, after what is there already; nothing where one is misspelled.
+pub(crate) fn decoded(
+    tabs: bool,
+    into: Vec<u8>,
+    bytes: &[u8],
+) -> Result<Option<Vec<u8>>, AllocError>
+    ensures { IfOk result (λ v. option_map (λ w. w.items) v ≡ appended into.items (decoded tabs bytes.now)) }
+{
+    let mut values = into;
+    let mut state = Spelling::Plain;
+    for b in bytes {
+        match spelling_step(tabs, state, *b) {
+            Read::Value(v) => {
+                values.push(v)?;
+                state = Spelling::Plain;
+            }
+            Read::GoesOn(next) => state = next,
+            Read::Wrong => return Ok(None),
+        }
+    }
+    match state {
+        Spelling::Plain => Ok(Some(values)),
+        Spelling::Escape => Ok(None),
+        Spelling::Open => Ok(None),
+        Spelling::Digit(_) => Ok(None),
+        Spelling::Digits(_) => Ok(None),
+    }
+}
+
+fn digit_value(b: u8) -> u8
+    ensures value { result ≡ or_zero (bytes.digit_of b) }
+    ensures small { result ≤ 15 }
+{
+    match digit_of(b) {
+        Some(d) => d,
+        None => 0,
+    }
+}
+
+/// The value of the digits, if it fits 64 bits with a sign.
+fn value_from(base: u64, digits: &[u8]) -> Option<u64>
+    requires some { 2 ≤ base }
+    requires small { base ≤ 16 }
+    ensures value { result ≡ fitting (value_from base 0 digits.now) }
+    ensures within { IfSome result (λ n. n < 2 ^ 63) }
+{
+    let mut n: u64 = 0;
+    for b in digits {
+        let d = u64::from(digit_value(*b));
+        if (9223372036854775807 - d) / base < n {
+            return None;
+        }
+        n = n * base + d;
+    }
+    Some(n)
+}
+
+fn value_after_hash(bytes: &[u8]) -> Option<u64>
+    ensures value { result ≡ fitting (value_after_hash bytes.now) }
+    ensures within { IfSome result (λ n. n < 2 ^ 63) }
+{
+    match bytes {
+        [] => Some(0),
+        [b, rest @ ..] => match base_of(*b) {
+            Some(base) => value_from(u64::from(base), rest),
+            None => Some(0),
+        },
+    }
+}
+
+/// The value of an integer as it is written, if it fits 64 bits with a sign.
+pub(crate) fn value_of(bytes: &[u8]) -> Option<u64>
+    ensures value { result ≡ fitting (value_of bytes.now) }
+    ensures within { IfSome result (λ n. n < 2 ^ 63) }
+{
+    match bytes {
+        [] => Some(0),
+        [b'#', rest @ ..] => value_after_hash(rest),
+        [_, ..] => value_from(10, bytes),
+    }
+}
