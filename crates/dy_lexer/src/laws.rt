@@ -1,10 +1,12 @@
 //! Laws of the tokens of texts.
 
-ghost use Rattle.std.specs.Prelude.{◌≡◌, ℕ, ◌≤◌, ◌++◌, List, length, Ok, Err};
+ghost use Rattle.std.specs.Prelude.{◌≡◌, ◌↔◌, ℕ, ◌≤◌, ◌++◌, Bool, List, length, Ok, Err, Some};
 ghost use Rattle.dy_base.specs.declared.fault.Fault.{Fault};
 ghost use Rattle.dy_tree.specs.declared.token.Token.{Token};
 ghost use Rattle.dy_lexer.specs.declared.class.Piece.{Piece};
 ghost use Rattle.dy_lexer.specs.Pieces.{piece_at};
+ghost use Rattle.dy_lexer.specs.Scan.{decoded};
+ghost use Rattle.dy_lexer.specs.Characters.{Characters};
 ghost use Rattle.dy_lexer.specs.Forms.{Begins};
 ghost use Rattle.dy_lexer.specs.Tokens.{tokens_of};
 ghost use Rattle.dy_lexer.specs.Cut.{Cut, Broken, Judged};
