@@ -27,4 +27,6 @@ pub fn token_laws()
     ensures apart { (file at : ℕ) (text : List ℕ) (ts : List Token) (f : Fault) → Cut file at text ts → Broken file at text f → ⊥ }
     // The next piece of a text is one, of one kind.
     ensures next { (kind : Piece) (piece rest : List ℕ) → Begins kind piece rest → piece_at (piece ++ rest) ≡ Ok (kind, length piece) }
+    // What the characters of a literal stand for is read as they are spelled.
+    ensures characters { (tabs : Bool) (text values : List ℕ) → (decoded tabs text ≡ Some values) ↔ Characters tabs text values }
 {}
