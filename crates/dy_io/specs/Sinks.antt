@@ -1,4 +1,4 @@
--- What a sink holds after a call (own).
+-- What a sink holds after a call.
 use Rattle.std.specs.Prelude.{ℕ, ◌≤◌, List, length, take, Option}
 use Rattle.std.specs.Io.KnownBytes.{Appends}
 

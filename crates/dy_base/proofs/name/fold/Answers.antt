@@ -1,5 +1,3 @@
-use Rattle.std.proofs.Common.{sym, rules, ap, ◌∙◌}
-use Rattle.dy_base.specs.Folding.{folded}
 use Rattle.dy_base.proofs.Letters.{same_text-law, folded-twice}
 use Rattle.dy_base.proofs.name.fold.Goals as goal
 

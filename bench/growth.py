@@ -1,0 +1,180 @@
+#!/usr/bin/env python3
+"""Measures how the time and the memory of `build` grow with the size of a library.
+
+usage: growth.py [COMMAND ..]
+
+Builds libraries of 64 KiB, 256 KiB, 1 MiB and 4 MiB of format-out lines, made in a temporary
+folder, by `COMMAND .. build LID`. With no COMMAND it is the script banthruy beside this folder.
+
+The status is 1 where a library is not built or prints something else, where time or memory grows
+by more than 1.3 for each doubling, beyond the doubling itself, or where the largest library takes
+more than 1 GiB.
+"""
+
+import filecmp
+import math
+import os
+import subprocess
+import sys
+import tempfile
+import time
+
+KIB = 1024
+MIB = 1024 * KIB
+SIZES = [64 * KIB, 256 * KIB, MIB, 4 * MIB]
+# Each library is built so often. The shortest time counts, and the highest peak.
+RUNS = 3
+MOST_GROWTH = 1.3
+MOST_MEMORY = 1024 * MIB
+# Times below this are taken as this: the clock and the machine's other work blur them.
+SHORTEST = 0.01
+
+LID = "library: growth\nfiles: library\n growth\n"
+LIBRARY = (
+    "module: dylan-user\n\n"
+    "define library growth use dylan; use io; end;\n"
+    "define module growth use dylan; use format-out; end;\n"
+)
+HEADER = "module: growth\n\n"
+
+
+class Failed(Exception):
+    """A run that is no measurement, or a bound that is not kept."""
+
+
+def write_source(folder, size):
+    """Writes a source file of this size, and beside it what the program prints. Lines go out one by
+    one: a child's peak counts from what this process holds when it starts the child."""
+    left = size - len(HEADER)
+    with open_text(folder, "growth.dylan") as file, open_text(folder, "printed") as printed:
+        file.write(HEADER)
+        for number in range(size):
+            a, b, c, d = number % 1000, number % 97, number % 31, number % 7
+            line = f'format-out("%d\\n", ({a} + {b}) * {c} - {d});\n'
+            if len(line) > left:
+                break
+            file.write(line)
+            printed.write(f"{(a + b) * c - d}\n")
+            left -= len(line)
+        file.write("\n" * left)
+
+
+def write_library(folder, size):
+    with open_text(folder, "growth.lid") as file:
+        file.write(LID)
+    with open_text(folder, "library.dylan") as file:
+        file.write(LIBRARY)
+    write_source(folder, size)
+
+
+def open_text(folder, name):
+    return open(os.path.join(folder, name), "w", encoding="ascii", newline="")
+
+
+class Measure:
+    """What one run took: seconds on the clock and of the processor, and bytes at its peak."""
+
+    def __init__(self, elapsed, processor, peak):
+        self.elapsed, self.processor, self.peak = elapsed, processor, peak
+
+    def best(self, other):
+        return Measure(
+            min(self.elapsed, other.elapsed),
+            min(self.processor, other.processor),
+            max(self.peak, other.peak),
+        )
+
+
+def run(command, folder):
+    """Builds the library in the folder once: the measure, and the status."""
+    with open(os.path.join(folder, "out"), "wb") as out, open(os.path.join(folder, "err"), "wb") as err:
+        begin = time.perf_counter()
+        child = subprocess.Popen(
+            [*command, "build", "growth.lid"], cwd=folder, stdin=subprocess.DEVNULL, stdout=out, stderr=err
+        )
+        _, status, usage = os.wait4(child.pid, 0)
+        elapsed = time.perf_counter() - begin
+    child.returncode = os.waitstatus_to_exitcode(status)
+    # Linux counts the peak in KiB, and macOS in bytes.
+    unit = 1 if sys.platform == "darwin" else KIB
+    return Measure(elapsed, usage.ru_utime + usage.ru_stime, usage.ru_maxrss * unit), child.returncode
+
+
+def check(folder, size, status):
+    """Stops where a run did not print what it was to print."""
+    if status != 0:
+        with open(os.path.join(folder, "err"), encoding="utf-8", errors="replace") as err:
+            last = err.read().strip().splitlines()[-1:]
+        raise Failed(f"a library of {size} bytes: status {status}: {' '.join(last)}")
+    if not filecmp.cmp(os.path.join(folder, "out"), os.path.join(folder, "printed"), shallow=False):
+        raise Failed(f"a library of {size} bytes: it printed something else than it was to print")
+
+
+def measure(command, folder, size, runs):
+    """The best of several builds of a library of this size."""
+    write_library(folder, size)
+    best = None
+    for _ in range(runs):
+        one, status = run(command, folder)
+        check(folder, size, status)
+        best = one if best is None else best.best(one)
+    return best
+
+
+def growth(larger, smaller, ratio):
+    """How a quantity grows for each doubling of the size, beyond the doubling itself."""
+    return (larger / smaller / ratio) ** (1 / math.log2(ratio))
+
+
+def named(size):
+    return f"{size // MIB} MiB" if size >= MIB else f"{size // KIB} KiB"
+
+
+def table(command, folder):
+    """Prints a row for each size, and gives the bounds that are not kept."""
+    # A library of one line shows what every run takes. The first run is not counted: it may build the program.
+    least = len(HEADER) + 40
+    measure(command, folder, least, 1)
+    base = measure(command, folder, least, RUNS)
+    print(f"one line: {base.elapsed:.3f} s, {base.processor:.3f} s of the processor, peak {base.peak / MIB:.1f} MiB")
+    print("| size | elapsed | processor | per byte | growth | peak memory | per byte | growth |")
+    print("|---|---|---|---|---|---|---|---|")
+    before, faults = None, []
+    for size in SIZES:
+        it = measure(command, folder, size, RUNS)
+        taken = max(it.processor - base.processor, SHORTEST)
+        row = [named(size), f"{it.elapsed:.3f} s", f"{it.processor:.3f} s", f"{taken / size * 1e9:.0f} ns"]
+        memory = [f"{it.peak / MIB:.1f} MiB", f"{it.peak / size:.0f}"]
+        if before is None:
+            row += ["", *memory, ""]
+        else:
+            ratio = size / before[0]
+            factors = [growth(taken, before[1], ratio), growth(it.peak, before[2], ratio)]
+            row += [f"{factors[0]:.2f}", *memory, f"{factors[1]:.2f}"]
+            for what, factor in zip(["time", "memory"], factors):
+                if factor > MOST_GROWTH:
+                    faults.append(f"{what} up to {named(size)} grows by {factor:.2f} a doubling, beyond the doubling")
+        print(f"| {' | '.join(row)} |", flush=True)
+        before = (size, taken, it.peak)
+    if it.peak > MOST_MEMORY:
+        faults.append(f"the peak at {named(size)} is {it.peak / MIB:.0f} MiB")
+    return faults
+
+
+def main():
+    beside = os.path.join(os.path.dirname(os.path.dirname(os.path.realpath(__file__))), "banthruy")
+    command = sys.argv[1:] or [beside]
+    if "/" in command[0]:
+        command[0] = os.path.abspath(command[0])
+    try:
+        with tempfile.TemporaryDirectory() as folder:
+            faults = table(command, folder)
+    except (Failed, OSError) as error:
+        faults = [str(error)]
+    for fault in faults:
+        print(f"growth.py: {fault}", file=sys.stderr)
+    return 1 if faults else 0
+
+
+if __name__ == "__main__":
+    sys.exit(main())

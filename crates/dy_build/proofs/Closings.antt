@@ -1,0 +1,69 @@
+-- How the end of a run becomes the end of a command.
+use Rattle.std.proofs.Common.{◌≡◌, ◌⊎◌, ℕ, List, [], length, Option, Some, None, Result, Ok, Err, inl, inr, refl, sym, subst, arith}
+use Rattle.std.specs.Prelude.{OnOk, OnErr}
+use Rattle.std.specs.Borrow.{Bor}
+use Rattle.std.specs.Io.KnownBytes.{Appends}
+use Rattle.std.proofs.lemmas.List.{take_all, append-nil}
+use Rattle.dy_io.specs.Sinks.{AppendsFront}
+use Rattle.dy_build.specs.declared.run.execute.RunEnd.{RunEnd}
+use Rattle.dy_build.specs.declared.run.execute.RunEnd.TheVariants as ends
+use Rattle.dy_build.specs.declared.refused.Refused.{Refused}
+use Rattle.dy_build.specs.Refusals.{refusal_line}
+use Rattle.dy_build.specs.Lines.{unhandled_line}
+use Rattle.dy_build.specs.Meaning.{Outcome, Gave, Ended, Spent}
+use Rattle.dy_build.specs.Machine.{Final, Finished, Failed, OutOfFuel}
+use Rattle.dy_build.specs.Code.{final_of}
+use Rattle.dy_build.specs.Endings.{EndsAs, Sends, sent_by}
+use Rattle.dy_build.specs.Outcome.{Report, Verdict, refused, run_report, build_report}
+use Rattle.dy_build.specs.Command.{PutsLine, final_report, Closes, Outputs, outputs, SentFront, Finishes}
+
+pub appends_front : (old new : Option (List ℕ)) (bytes : List ℕ) → Appends old new bytes → AppendsFront old new bytes
+appends_front old new bytes h = (length bytes, omega arith, subst (Appends old new) (sym (take_all (length bytes) bytes (omega arith))) h)
+
+pub signalled_closes : (text : Bor (List ℕ)) (final : Final) (line : List ℕ) (result : ℕ) (old new : Option (List ℕ)) → line ≡ unhandled_line text.now
+    → PutsLine 1 line result old new → EndsAs (ends.Signalled text) final → Closes (ends.Signalled text) final result old new
+signalled_closes text final line result old new is puts (state, e) =
+    subst (λ (f : Final). PutsLine (final_report f).status (final_report f).err result old new) (sym e)
+    (subst (λ (l : List ℕ). PutsLine 1 l result old new) is puts)
+
+pub report_of : (outcome : Outcome) → run_report outcome ≡ final_report (final_of outcome)
+report_of (Gave values state) = refl
+report_of (Ended error state) = refl
+report_of (Spent state) = refl
+
+sent_is : (final : Final) → sent_by final ≡ (final_report final).out
+sent_is (Finished state) = refl
+sent_is (Failed error state) = refl
+sent_is (OutOfFuel state) = refl
+
+line_finishes : (report : Report) (result : ℕ) (a b c d : Option (List ℕ)) → Appends a b report.out → PutsLine report.status report.err result c d → Finishes report result (outputs a b c d)
+line_finishes report result a b c d sent (inl (status, line)) = inl (status, record { out = sent; err = line })
+line_finishes report result a b c d sent (inr (cause, line)) = inr (cause, record { out = appends_front a b report.out sent; err = line })
+
+pub closes_finishes : (end : RunEnd) (final : Final) (result : ℕ) (a b c d : Option (List ℕ)) → Sends end a b (sent_by final) → Closes end final result c d → Finishes (final_report final) result (outputs a b c d)
+closes_finishes ends.Finished final result a b c d sent closes = line_finishes (final_report final) result a b c d (subst (Appends a b) (sent_is final) sent) closes
+closes_finishes (ends.Signalled text) final result a b c d sent closes = line_finishes (final_report final) result a b c d (subst (Appends a b) (sent_is final) sent) closes
+closes_finishes ends.OutOfFuel final result a b c d sent closes = line_finishes (final_report final) result a b c d (subst (Appends a b) (sent_is final) sent) closes
+closes_finishes ends.WriteFault final result a b c d sent closes = inr (inl closes.0, record { out = subst (AppendsFront a b) (sent_is final) sent; err = closes.1 })
+closes_finishes ends.NoMemory final result a b c d sent closes = inr (inr closes.0, record { out = subst (AppendsFront a b) (sent_is final) sent; err = closes.1 })
+
+-- whether a put was done or not, a front was sent
+pub put_any_front : {A E : Type 0} (result : Result A E) (old new : Option (List ℕ)) (bytes : List ℕ) → OnOk result (Appends old new bytes) → OnErr result (AppendsFront old new bytes) → AppendsFront old new bytes
+put_any_front (Ok x) old new bytes sent front = appends_front old new bytes sent
+put_any_front (Err e) old new bytes sent front = front
+
+appends_nothing : (held : Option (List ℕ)) → Appends held held []
+appends_nothing None = tt
+appends_nothing (Some bytes) = sym (append-nil bytes)
+
+pub refused_finishes : (why : Refused) (verdict : Verdict) (result : ℕ) (a b c : Option (List ℕ)) → verdict ≡ refused why → PutsLine 2 (refusal_line why) result b c → Finishes (build_report verdict) result (outputs a a b c)
+refused_finishes why verdict result a b c is puts =
+    subst (λ (v : Verdict). Finishes (build_report v) result (outputs a a b c)) (sym is) (line_finishes (build_report (refused why)) result a a b c (appends_nothing a) puts)
+
+-- where a sink or memory failed, a front of the report was sent
+pub fronts_of : (report : Report) (result : ℕ) (ends : Outputs) → ((result ≡ 4) ⊎ Finishes report result ends) → ((result ≡ 5) ⊎ (result ≡ 6)) → SentFront report ends
+fronts_of report result ends (inl four) (inl five) = absurd (omega arith)
+fronts_of report result ends (inl four) (inr six) = absurd (omega arith)
+fronts_of report result ends (inr (inl (status, sent))) which =
+    record { out = appends_front _ _ report.out sent.out; err = appends_front _ _ report.err sent.err }
+fronts_of report result ends (inr (inr (cause, fronts))) which = fronts

@@ -1,0 +1,77 @@
+-- The definitions at examples, which they compute.
+use Rattle.std.proofs.Common.{◌≡◌, true, false, [], ◌∷◌, Some, None, refl}
+use Rattle.std.specs.Prelude.{codes}
+use Rattle.std.specs.Fmt.{digits}
+use Rattle.dy_build.specs.Layout.{with_line_feeds, is_name, is_file_name, Lid, lid_of, is_library_file, body_of, source_name}
+use Rattle.dy_build.specs.Words.{build_of}
+use Rattle.dy_build.specs.Refusals.{refusal_line, no_file, syntax}
+
+-- the escape of a line end in a text is the byte 10
+line_end : codes "\n" ≡ 10 ∷ []
+line_end = refl
+
+line_feeds : with_line_feeds (codes "a\r\nb\r\r\nc\rd\n") ≡ codes "a\nb\r\nc\rd\n"
+line_feeds = refl
+
+plain_name : is_name (codes "hello-2") ≡ true
+plain_name = refl
+
+reserved_name : is_name (codes "otherwise") ≡ false
+reserved_name = refl
+
+capital_name : is_name (codes "Hello") ≡ false
+capital_name = refl
+
+blank_file_name : is_file_name (codes "my file") ≡ false
+blank_file_name = refl
+
+abbrev hello : Lid
+hello = record { library = codes "hello"; first = codes "library"; second = codes "hello" }
+
+lid : lid_of (codes "library: hello\nfiles: library\n hello\n") ≡ Some hello
+lid = refl
+
+lid_without_end : lid_of (codes "library: hello\nfiles: library\n hello") ≡ Some hello
+lid_without_end = refl
+
+lid_with_more : lid_of (codes "library: hello\nfiles: library\n hello\n\n") ≡ None
+lid_with_more = refl
+
+library_file : is_library_file (codes "module: dylan-user\n\ndefine library hello use dylan; use io; end;\ndefine module hello use dylan; use format-out; end;\n") (codes "hello") ≡ true
+library_file = refl
+
+body : body_of (codes "module: hello\n\nformat-out(\"%d\\n\", 6 * 7);\n") (codes "hello") ≡ Some (codes "format-out(\"%d\\n\", 6 * 7);\n")
+body = refl
+
+empty_body : body_of (codes "module: hello\n") (codes "hello") ≡ Some []
+empty_body = refl
+
+no_empty_line : body_of (codes "module: hello\nx") (codes "hello") ≡ None
+no_empty_line = refl
+
+beside_lid : source_name (codes "a/b/hello.lid") (codes "library") ≡ codes "a/b/library.dylan"
+beside_lid = refl
+
+with_ending : source_name (codes "hello.lid") (codes "library.dylan") ≡ codes "library.dylan"
+with_ending = refl
+
+build : build_of (codes "build" ∷ codes "hello.lid" ∷ []) ≡ Some (codes "hello.lid")
+build = refl
+
+build_option : build_of (codes "build" ∷ codes "--help" ∷ []) ≡ None
+build_option = refl
+
+build_standard_input : build_of (codes "build" ∷ codes "-" ∷ []) ≡ Some (codes "-")
+build_standard_input = refl
+
+absent : refusal_line (no_file (codes "a.lid") (codes "b.dylan")) ≡ codes "refused a.lid: 35 NoFile: b.dylan\n"
+unfolding digits
+absent = refl
+
+absent_subject : refusal_line (no_file (codes "a.lid") (codes "a.lid")) ≡ codes "refused a.lid: 35 NoFile\n"
+unfolding digits
+absent_subject = refl
+
+placed : refusal_line (syntax (codes "hello") (codes "b.dylan")) ≡ codes "refused hello: 17 Syntax at b.dylan:1:1\n"
+unfolding digits
+placed = refl

@@ -1,0 +1,188 @@
+-- The tokens that are read are those of the text.
+use Rattle.std.proofs.Common.{◌≡◌, ℕ, zero, suc, ◌+◌, ◌-◌, ◌*◌, ◌/◌, ◌<◌, ◌≤◌, Bool, true, false, cond, List, [], ◌∷◌, ◌++◌, length, take, drop, fold, Option, Some, None, option_map, pos, codes, refl, sym, ap, arith}
+use Rattle.std.proofs.lemmas.List.{take-append-drop, take_at}
+use Rattle.std.proofs.lemmas.Bool.{cond_both, and_parts, ne_eqb, eqb-true, leb-true, ltb-false, le-ltb}
+use Rattle.std.proofs.Math.Numerals.{one-add}
+use Rattle.std.specs.List.{prefix_len}
+use Rattle.std.specs.Cmp.Lexicographic.{same_text}
+use Rattle.dy_build.specs.declared.text.token.Token.{Token}
+use Rattle.dy_build.specs.declared.text.token.Token.TheVariants.{FormatOut, Directive, Number, Open, Close, Comma, Semicolon, Plus, Minus, Times}
+use Rattle.dy_build.specs.declared.text.lexing.Class.{Class}
+use Rattle.dy_build.specs.declared.text.lexing.Class.TheVariants.{Blank, Digit, Letter, Quote, Single, Other}
+use Rattle.dy_build.specs.declared.text.lexing.Piece.{Piece}
+use Rattle.dy_build.specs.declared.text.lexing.Piece.TheVariants.{Nothing, Skipped, Taken}
+use Rattle.dy_build.specs.Tokens.{is_digit, is_letter, in_name, is_blank, Each, IsNumber, Spells, BeginsWithout, EndsBefore, Lexes, nothing, blank, token}
+use Rattle.dy_build.specs.Lexing.{class_of, number_of, number_piece, piece_from, piece_at, after_piece, tokens_after, tokens_of}
+
+-- the longest run of bytes that pass
+passes_more : (p : ℕ → Bool) (byte : ℕ) (bytes : List ℕ) (n : ℕ) (b : Bool) → p byte ≡ b → Each p (take n bytes) → Each p (take (cond b (1 + n) 0) (byte ∷ bytes))
+passes_more p byte bytes n true e h = rw one-add (e, h)
+passes_more p byte bytes n false e h = tt
+
+run_passes : (p : ℕ → Bool) (bytes : List ℕ) → Each p (take (prefix_len p bytes) bytes)
+run_passes p [] = tt
+run_passes p (byte ∷ bytes) = passes_more p byte bytes (prefix_len p bytes) (p byte) refl (run_passes p bytes)
+
+ends_more : (p : ℕ → Bool) (byte : ℕ) (bytes : List ℕ) (n : ℕ) (b : Bool) → p byte ≡ b → BeginsWithout p (drop n bytes) → BeginsWithout p (drop (cond b (1 + n) 0) (byte ∷ bytes))
+ends_more p byte bytes n true e h = rw one-add h
+ends_more p byte bytes n false e h = e
+
+run_ends : (p : ℕ → Bool) (bytes : List ℕ) → BeginsWithout p (drop (prefix_len p bytes) bytes)
+run_ends p [] = tt
+run_ends p (byte ∷ bytes) = ends_more p byte bytes (prefix_len p bytes) (p byte) refl (run_ends p bytes)
+
+run_none : (p : ℕ → Bool) (rest : List ℕ) → BeginsWithout p rest → prefix_len p rest ≡ 0
+run_none p [] h = refl
+run_none p (byte ∷ bytes) h = rw h refl
+
+run_len : (p : ℕ → Bool) (bytes rest : List ℕ) → Each p bytes → BeginsWithout p rest → prefix_len p (bytes ++ rest) ≡ length bytes
+run_len p [] rest each ends = run_none p rest ends
+run_len p (byte ∷ bytes) rest each ends = let e = each.0 in let below = run_len p bytes rest each.1 ends in rw (e, below) (omega arith)
+
+-- what a class says of the byte
+abbrev ClassIs : Class → ℕ → Type 0
+ClassIs Blank byte = is_blank byte ≡ true
+ClassIs Digit byte = is_digit byte ≡ true
+ClassIs Letter byte = Unit {0}
+ClassIs Quote byte = byte ≡ 34
+ClassIs (Single first) byte = Spells first (byte ∷ []) × ((rest : List ℕ) → EndsBefore first rest)
+ClassIs Other byte = Unit {0}
+
+class_is : (byte : ℕ) → ClassIs (class_of byte) byte
+class_is byte =
+    let P : Class → Type 0 = λ c. ClassIs c byte in
+    cond_both (is_blank byte) Blank _ P (λ e. e) λ _.
+    cond_both (is_digit byte) Digit _ P (λ e. e) λ _.
+    cond_both (is_letter byte) Letter _ P (λ e. tt) λ _.
+    cond_both _ Quote _ P (λ e. eqb-true byte 34 e) λ _.
+    cond_both _ (Single Open) _ P (λ e. (ap (λ (b : ℕ). b ∷ []) (eqb-true byte 40 e), λ rest. tt)) λ _.
+    cond_both _ (Single Close) _ P (λ e. (ap (λ (b : ℕ). b ∷ []) (eqb-true byte 41 e), λ rest. tt)) λ _.
+    cond_both _ (Single Comma) _ P (λ e. (ap (λ (b : ℕ). b ∷ []) (eqb-true byte 44 e), λ rest. tt)) λ _.
+    cond_both _ (Single Semicolon) _ P (λ e. (ap (λ (b : ℕ). b ∷ []) (eqb-true byte 59 e), λ rest. tt)) λ _.
+    cond_both _ (Single Plus) _ P (λ e. (ap (λ (b : ℕ). b ∷ []) (eqb-true byte 43 e), λ rest. tt)) λ _.
+    cond_both _ (Single Minus) _ P (λ e. (ap (λ (b : ℕ). b ∷ []) (eqb-true byte 45 e), λ rest. tt)) λ _.
+    cond_both _ (Single Times) Other P (λ e. (ap (λ (b : ℕ). b ∷ []) (eqb-true byte 42 e), λ rest. tt)) λ _. tt
+
+abbrev next_value : ℕ → ℕ → ℕ
+next_value value digit = value * 10 + (digit - 48)
+
+-- the number is what digits stand for behind those that stand for `value`
+abbrev NumberIs : Option ℕ → ℕ → List ℕ → Type 0
+NumberIs None value digits = Unit {0}
+NumberIs (Some number) value digits = (fold next_value value digits ≡ number) × (number < 9223372036854775808)
+
+small_digit : (digit : ℕ) → is_digit digit ≡ true → (48 ≤ digit) × (digit ≤ 57)
+small_digit digit e = let parts = and_parts _ _ e in (leb-true 48 digit parts.0, leb-true digit 57 parts.1)
+
+one_digit : (digit : ℕ) (digits : List ℕ) (value : ℕ) (o : Option ℕ) → NumberIs o (next_value value digit) digits → NumberIs o value (digit ∷ digits)
+one_digit digit digits value None h = tt
+one_digit digit digits value (Some number) h = h
+
+number_sound : (digits : List ℕ) (value : ℕ) → Each is_digit digits → value < 9223372036854775808 → NumberIs (number_of value digits) value digits
+number_sound [] value each fits = (refl, fits)
+number_sound (digit ∷ digits) value each fits =
+    let (low, high) = small_digit digit each.0 in
+    cond_both _ None (number_of (next_value value digit) digits) (λ (o : Option ℕ). NumberIs o value (digit ∷ digits)) (λ e. tt)
+    (λ e. let room = ltb-false _ value e in one_digit digit digits value (number_of (next_value value digit) digits) (number_sound digits (next_value value digit) each.1 (omega arith)))
+
+grows : (digits : List ℕ) (value : ℕ) → value ≤ fold next_value value digits
+grows [] value = omega arith
+grows (digit ∷ digits) value = let more = grows digits (next_value value digit) in omega arith
+
+number_complete : (digits : List ℕ) (value : ℕ) → Each is_digit digits → fold next_value value digits < 9223372036854775808 → number_of value digits ≡ Some (fold next_value value digits)
+number_complete [] value each fits = refl
+number_complete (digit ∷ digits) value each fits =
+    let (low, high) = small_digit digit each.0 in
+    let more = grows digits (next_value value digit) in
+    rw (le-ltb ((9223372036854775807 - (digit - 48)) / 10) value (omega arith)) (number_complete digits (next_value value digit) each.1 fits)
+
+-- what a piece says of the bytes at the front
+abbrev PieceIs : Piece → ℕ → List ℕ → Type 0
+PieceIs Nothing byte bytes = Unit {0}
+PieceIs Skipped byte bytes = is_blank byte ≡ true
+PieceIs (Taken first more) byte bytes = Spells first (byte ∷ take more bytes) × EndsBefore first (drop more bytes)
+
+number_is : (byte : ℕ) (bytes : List ℕ) (more : ℕ) (o : Option ℕ) → Each is_digit (byte ∷ take more bytes) → BeginsWithout is_digit (drop more bytes) → NumberIs o 0 (byte ∷ take more bytes)
+    → PieceIs (number_piece (option_map pos o) more) byte bytes
+number_is byte bytes more None each ends h = tt
+number_is byte bytes more (Some value) each ends h = ((value, refl, record { some = omega arith; digits = each; stands = h.0; fits = h.1 }), ends)
+
+piece_is : (byte : ℕ) (bytes : List ℕ) (c : Class) → ClassIs c byte → PieceIs (piece_from c byte bytes) byte bytes
+piece_is byte bytes Blank h = h
+piece_is byte bytes Digit h =
+    let each : Each is_digit (byte ∷ take (prefix_len is_digit bytes) bytes) = (h, run_passes is_digit bytes) in
+    number_is byte bytes (prefix_len is_digit bytes) (number_of 0 (byte ∷ take (prefix_len is_digit bytes) bytes)) each (run_ends is_digit bytes)
+    (number_sound (byte ∷ take (prefix_len is_digit bytes) bytes) 0 each (omega arith))
+piece_is byte bytes Letter h =
+    cond_both _ (Taken FormatOut (prefix_len in_name bytes)) Nothing (λ (piece : Piece). PieceIs piece byte bytes) (λ e. (same_text _ _ (sym e), run_ends in_name bytes)) (λ e. tt)
+piece_is byte bytes Quote h =
+    cond_both _ (Taken Directive 5) Nothing (λ (piece : Piece). PieceIs piece byte bytes)
+    (λ e. let same = same_text (codes "%d\\n\"") (take 5 bytes) (sym e) in (rw (h, ← same) refl, tt)) (λ e. tt)
+piece_is byte bytes (Single first) h = (h.0, h.1 bytes)
+piece_is byte bytes Other h = tt
+
+abbrev pub LexesIf : List ℕ → Option (List Token) → Type 0
+LexesIf text None = Unit {0}
+LexesIf text (Some tokens) = Lexes text tokens
+
+blank_before : (byte : ℕ) (bytes : List ℕ) (o : Option (List Token)) → is_blank byte ≡ true → LexesIf bytes o → LexesIf (byte ∷ bytes) o
+blank_before byte bytes None e h = tt
+blank_before byte bytes (Some tokens) e h = blank byte bytes tokens e h
+
+token_before : (first : Token) (byte more : ℕ) (bytes : List ℕ) (o : Option (List Token)) → Spells first (byte ∷ take more bytes) → EndsBefore first (drop more bytes) → LexesIf (drop more bytes) o
+    → LexesIf (byte ∷ bytes) (option_map (λ tokens. first ∷ tokens) o)
+token_before first byte more bytes None spells ends h = tt
+token_before first byte more bytes (Some tokens) spells ends h =
+    token first (byte ∷ take more bytes) (drop more bytes) (byte ∷ bytes) tokens (ap (λ (rest : List ℕ). byte ∷ rest) (sym (take-append-drop more bytes))) spells ends h
+
+after_sound : (piece : Piece) (byte : ℕ) (bytes : List ℕ) → PieceIs piece byte bytes → ((more : ℕ) → LexesIf (drop more bytes) (tokens_after more bytes))
+    → LexesIf (byte ∷ bytes) (after_piece piece (λ more. tokens_after more bytes))
+after_sound Nothing byte bytes h below = tt
+after_sound Skipped byte bytes h below = blank_before byte bytes (tokens_after 0 bytes) h (below 0)
+after_sound (Taken first more) byte bytes h below = token_before first byte more bytes (tokens_after more bytes) h.0 h.1 (below more)
+
+sound_after : (text : List ℕ) (read : ℕ) → LexesIf (drop read text) (tokens_after read text)
+sound_after [] zero = nothing
+sound_after [] (suc read) = nothing
+sound_after (byte ∷ bytes) zero = after_sound (piece_at byte bytes) byte bytes (piece_is byte bytes (class_of byte) (class_is byte)) (sound_after bytes)
+sound_after (byte ∷ bytes) (suc read) = sound_after bytes read
+
+pub tokens_sound : (text : List ℕ) → LexesIf text (tokens_of text)
+tokens_sound text = sound_after text 0
+
+skipped : (bytes rest : List ℕ) → tokens_after (length bytes) (bytes ++ rest) ≡ tokens_of rest
+skipped [] rest = refl
+skipped (byte ∷ bytes) rest = skipped bytes rest
+
+blank_class : (byte : ℕ) → is_blank byte ≡ true → class_of byte ≡ Blank
+blank_class byte e = rw e refl
+
+digit_class : (byte : ℕ) → is_digit byte ≡ true → class_of byte ≡ Digit
+digit_class byte e =
+    let (low, high) = small_digit byte e in
+    rw (ne_eqb byte 32 (λ k. omega arith), ne_eqb byte 10 (λ k. omega arith), e) refl
+
+number_goes : (value : ℕ) (bytes rest : List ℕ) → IsNumber value bytes → BeginsWithout is_digit rest → tokens_of (bytes ++ rest) ≡ option_map (λ tokens. Number (pos value) ∷ tokens) (tokens_of rest)
+number_goes value [] rest h ends = let some = h.some in absurd (omega arith)
+number_goes value (byte ∷ bytes) rest h ends =
+    let stands = h.stands in let fits = h.fits in
+    let front = take_at bytes rest (length bytes) refl in
+    let read = number_complete (byte ∷ bytes) 0 h.digits (rw stands fits) in
+    rw (digit_class byte h.digits.0, run_len is_digit bytes rest h.digits.1 ends, front, read, stands, skipped bytes rest) refl
+
+token_goes : (first : Token) (bytes rest : List ℕ) → Spells first bytes → EndsBefore first rest → tokens_of (bytes ++ rest) ≡ option_map (λ tokens. first ∷ tokens) (tokens_of rest)
+token_goes FormatOut bytes rest h ends = rw (h, run_none in_name rest ends) refl
+token_goes Directive bytes rest h ends = rw h refl
+token_goes (Number z) bytes rest (value, is, number) ends = rw is (number_goes value bytes rest number ends)
+token_goes Open bytes rest h ends = rw h refl
+token_goes Close bytes rest h ends = rw h refl
+token_goes Comma bytes rest h ends = rw h refl
+token_goes Semicolon bytes rest h ends = rw h refl
+token_goes Plus bytes rest h ends = rw h refl
+token_goes Minus bytes rest h ends = rw h refl
+token_goes Times bytes rest h ends = rw h refl
+
+pub tokens_complete : (text : List ℕ) (tokens : List Token) → Lexes text tokens → tokens_of text ≡ Some tokens
+tokens_complete text tokens nothing = refl
+tokens_complete text tokens (blank byte rest tokens2 e h) = rw (blank_class byte e) (tokens_complete rest tokens2 h)
+tokens_complete text tokens (token first bytes rest text2 tokens2 e spells ends h) = rw (e, token_goes first bytes rest spells ends, tokens_complete rest tokens2 h) refl

@@ -1,0 +1,76 @@
+-- What a command says at its end (own).
+use Rattle.std.specs.Prelude.{◌≡◌, ℕ, ◌⊎◌, List, [], Option}
+use Rattle.std.specs.List.{concat}
+use Rattle.std.specs.Io.KnownBytes.{Appends}
+use Rattle.dy_base.specs.declared.kind.Kind.TheVariants.{NoFile}
+use Rattle.dy_io.specs.Causes.{Rose}
+use Rattle.dy_io.specs.Sinks.{AppendsFront}
+use Rattle.dy_build.specs.declared.refused.Refused.{Refused}
+use Rattle.dy_build.specs.declared.run.execute.RunEnd.{RunEnd}
+use Rattle.dy_build.specs.declared.run.execute.RunEnd.TheVariants as ends
+use Rattle.dy_build.specs.Refusals.{refusal_line}
+use Rattle.dy_build.specs.Lines.{file_fault_line, unhandled_line, out_of_fuel_line}
+use Rattle.dy_build.specs.Machine.{Final, Finished, Failed, OutOfFuel}
+use Rattle.dy_build.specs.Outcome.{Report}
+
+-- The line was sent and the status is the given one; or the sink or memory failed, and a front of it was sent.
+abbrev pub PutsLine : ℕ → List ℕ → ℕ → Option (List ℕ) → Option (List ℕ) → Type 0
+PutsLine status line result old new =
+    ((result ≡ status) × Appends old new line) ⊎ (((result ≡ 5) ⊎ (result ≡ 6)) × AppendsFront old new line)
+
+-- the report of a run that the machine ended so
+abbrev pub final_report : Final → Report
+final_report (Finished state) = record { status = 0; out = concat state.pieces; err = [] }
+final_report (Failed error state) = record { status = 1; out = concat state.pieces; err = unhandled_line error }
+final_report (OutOfFuel state) = record { status = 7; out = concat state.pieces; err = out_of_fuel_line }
+
+-- what closing a run that ended so does to the error output
+abbrev pub Closes : RunEnd → Final → ℕ → Option (List ℕ) → Option (List ℕ) → Type 0
+Closes ends.WriteFault final result old new = (result ≡ 5) × AppendsFront old new (final_report final).err
+Closes ends.NoMemory final result old new = (result ≡ 6) × AppendsFront old new (final_report final).err
+Closes _ final result old new = PutsLine (final_report final).status (final_report final).err result old new
+
+-- what the output and the error output held before and hold now
+pub record Outputs : Type 0 where
+  pub out_before : Option (List ℕ)
+  pub out_now : Option (List ℕ)
+  pub err_before : Option (List ℕ)
+  pub err_now : Option (List ℕ)
+
+abbrev pub outputs : Option (List ℕ) → Option (List ℕ) → Option (List ℕ) → Option (List ℕ) → Outputs
+outputs out_before out_now err_before err_now =
+    record { out_before = out_before; out_now = out_now; err_before = err_before; err_now = err_now }
+
+-- all of a report was sent
+pub record Sent (report : Report) (outputs : Outputs) : Type 0 where
+  pub out : Appends outputs.out_before outputs.out_now report.out
+  pub err : Appends outputs.err_before outputs.err_now report.err
+
+-- some of a report was sent, from its front on
+pub record SentFront (report : Report) (outputs : Outputs) : Type 0 where
+  pub out : AppendsFront outputs.out_before outputs.out_now report.out
+  pub err : AppendsFront outputs.err_before outputs.err_now report.err
+
+-- The report was sent and the status is its own; or a sink or memory failed, and a front of it was sent.
+abbrev pub Finishes : Report → ℕ → Outputs → Type 0
+Finishes report result outputs =
+    ((result ≡ report.status) × Sent report outputs) ⊎ (((result ≡ 5) ⊎ (result ≡ 6)) × SentFront report outputs)
+
+-- A refusal was told by its line, and nothing went to the output. An absent file is told only where the misses rose.
+abbrev pub Refuses : ℕ → ℕ → Outputs → Type 0
+Refuses misses_before misses_now outputs =
+    (why : Refused) × Appends outputs.err_before outputs.err_now (refusal_line why) × (outputs.out_now ≡ outputs.out_before)
+    × (why.kind ≡ NoFile → Rose misses_before misses_now)
+
+-- The line of a file that failed was sent, or a front of it, and nothing went to the output.
+abbrev pub TellsFault : Outputs → Type 0
+TellsFault outputs =
+    (name : List ℕ) × AppendsFront outputs.err_before outputs.err_now (file_fault_line name) × (outputs.out_now ≡ outputs.out_before)
+
+-- a count of faults has not risen
+abbrev pub Stood : ℕ → ℕ → Type 0
+Stood before now = Rose before now → ⊥
+
+-- the status is the report's, and all of the report was sent
+abbrev pub Done : Report → ℕ → Outputs → Type 0
+Done report result outputs = (result ≡ report.status) × Sent report outputs

@@ -1,0 +1,47 @@
+-- What reading the sources answers.
+use Rattle.std.specs.Prelude.{◌≡◌, ℕ, Result, Ok, Err}
+use Rattle.dy_base.specs.declared.kind.Kind.TheVariants.{NoFile, Syntax}
+use Rattle.dy_io.specs.Causes.{Rose}
+use Rattle.dy_term.specs.declared.program.Program.{Program}
+use Rattle.dy_term.specs.Core.{seen_program}
+use Rattle.dy_build.specs.declared.source.Source.{Source as Read}
+use Rattle.dy_build.specs.declared.source.Source.TheVariants as read
+use Rattle.dy_build.specs.declared.source.Halt.{Halt}
+use Rattle.dy_build.specs.declared.source.Halt.TheVariants as halts
+use Rattle.dy_build.specs.Outcome.{Source, absent, too_long, text, Verdict, refused, accepted}
+
+abbrev pub seen_source : Read → Source
+seen_source read.Absent = absent
+seen_source read.TooLong = too_long
+seen_source (read.Text bytes) = text bytes.items
+
+-- The answer is the verdict, unless a file failed or memory ran out.
+abbrev pub Judges : Result Program Halt → Verdict → Type 0
+Judges (Ok program) verdict = verdict ≡ accepted (seen_program program)
+Judges (Err (halts.Refused why)) verdict = verdict ≡ refused why
+Judges (Err (halts.FileFault name)) verdict = Unit {0}
+Judges (Err halts.Memory) verdict = Unit {0}
+
+-- A file is reported absent only where the misses rose.
+abbrev pub Misses : ℕ → ℕ → Halt → Type 0
+Misses before now (halts.Refused why) = why.kind ≡ NoFile → Rose before now
+Misses before now (halts.FileFault name) = Unit {0}
+Misses before now halts.Memory = Unit {0}
+
+-- A file is reported to fail only where the faults rose.
+abbrev pub Fails : ℕ → ℕ → Halt → Type 0
+Fails before now (halts.Refused why) = Unit {0}
+Fails before now (halts.FileFault name) = Rose before now
+Fails before now halts.Memory = Unit {0}
+
+-- No file is reported absent or failed.
+abbrev pub IsPlain : Halt → Type 0
+IsPlain (halts.Refused why) = why.kind ≡ Syntax
+IsPlain (halts.FileFault name) = ⊥
+IsPlain halts.Memory = Unit {0}
+
+-- A file failed, where the faults rose, or memory ran out.
+abbrev pub Interrupts : ℕ → ℕ → Halt → Type 0
+Interrupts before now (halts.Refused why) = ⊥
+Interrupts before now (halts.FileFault name) = Rose before now
+Interrupts before now halts.Memory = Unit {0}

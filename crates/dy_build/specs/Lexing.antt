@@ -1,0 +1,90 @@
+-- The tokens of a text, by functions that compute.
+use Rattle.std.specs.Prelude.{ℕ, zero, suc, ◌+◌, ◌-◌, ◌*◌, ◌/◌, ◌^◌, ◌≤◌, ◌==◌, nat_eq, nat_lt, if◌then◌else◌, List, [], ◌∷◌, ◌++◌, take, Option, Some, None, option_map, ℤ, pos, codes}
+use Rattle.std.specs.List.{prefix_len, starts_with}
+use Rattle.dy_build.specs.declared.text.token.Token.{Token}
+use Rattle.dy_build.specs.declared.text.token.Token.TheVariants.{FormatOut, Directive, Number, Open, Close, Comma, Semicolon, Plus, Minus, Times}
+use Rattle.dy_build.specs.declared.text.lexing.Class.{Class}
+use Rattle.dy_build.specs.declared.text.lexing.Class.TheVariants.{Blank, Digit, Letter, Quote, Single, Other}
+use Rattle.dy_build.specs.declared.text.lexing.Piece.{Piece}
+use Rattle.dy_build.specs.declared.text.lexing.Piece.TheVariants.{Nothing, Skipped, Taken}
+use Rattle.dy_build.specs.Tokens.{is_digit, is_letter, in_name, is_blank}
+use Rattle.dy_build.specs.Layout.{is_same}
+
+-- what a byte says that stands at the front
+abbrev pub class_of : ℕ → Class
+class_of byte =
+    if is_blank byte then Blank
+    else if is_digit byte then Digit
+    else if is_letter byte then Letter
+    else if byte == 34 then Quote
+    else if byte == 40 then Single Open
+    else if byte == 41 then Single Close
+    else if byte == 44 then Single Comma
+    else if byte == 59 then Single Semicolon
+    else if byte == 43 then Single Plus
+    else if byte == 45 then Single Minus
+    else if byte == 42 then Single Times
+    else Other
+
+-- the largest number that a token stands for
+abbrev pub largest_number : ℕ
+largest_number = 2 ^ 63 - 1
+
+-- the number that digits stand for behind digits that stand for `value`, unless it is too large
+abbrev pub number_of : ℕ → List ℕ → Option ℕ
+number_of value [] = Some value
+number_of value (digit ∷ digits) =
+    if nat_lt ((largest_number - (digit - 48)) / 10) value then None else number_of (value * 10 + (digit - 48)) digits
+
+-- a number whose first byte has so many bytes behind it
+abbrev pub number_piece : Option ℤ → ℕ → Piece
+number_piece None more = Nothing
+number_piece (Some value) more = Taken (Number value) more
+
+abbrev pub word_piece : List ℕ → ℕ → Piece
+word_piece word more = if is_same word (codes "format-out") then Taken FormatOut more else Nothing
+
+-- behind a quotation mark
+abbrev pub string_piece : List ℕ → Piece
+string_piece bytes = if starts_with nat_eq bytes (codes "%d\\n\"") then Taken Directive 5 else Nothing
+
+abbrev pub piece_from : Class → ℕ → List ℕ → Piece
+piece_from Blank byte bytes = Skipped
+piece_from Digit byte bytes = let more = prefix_len is_digit bytes in number_piece (option_map pos (number_of 0 (byte ∷ take more bytes))) more
+piece_from Letter byte bytes = let more = prefix_len in_name bytes in word_piece (byte ∷ take more bytes) more
+piece_from Quote byte bytes = string_piece bytes
+piece_from (Single token) byte bytes = Taken token 0
+piece_from Other byte bytes = Nothing
+
+-- what stands at the front: no token, a blank, or a token whose first byte has so many bytes behind it
+abbrev pub piece_at : ℕ → List ℕ → Piece
+piece_at byte bytes = piece_from (class_of byte) byte bytes
+
+abbrev pub piece_in : List ℕ → Piece
+piece_in [] = Nothing
+piece_in (byte ∷ bytes) = piece_at byte bytes
+
+abbrev pub after_piece : Piece → (ℕ → Option (List Token)) → Option (List Token)
+after_piece Nothing go = None
+after_piece Skipped go = go 0
+after_piece (Taken token more) go = option_map (λ tokens. token ∷ tokens) (go more)
+
+-- the tokens of a text of which so many bytes at the front are read already
+abbrev pub tokens_after : ℕ → List ℕ → Option (List Token)
+tokens_after read [] = Some []
+tokens_after zero (byte ∷ bytes) = after_piece (piece_at byte bytes) (λ more. tokens_after more bytes)
+tokens_after (suc read) (byte ∷ bytes) = tokens_after read bytes
+
+-- the tokens of a text, if it consists of tokens
+abbrev pub tokens_of : List ℕ → Option (List Token)
+tokens_of text = tokens_after 0 text
+
+-- no more bytes than these are behind the first
+abbrev pub IsWithin : Piece → ℕ → Type 0
+IsWithin Nothing room = Unit {0}
+IsWithin Skipped room = Unit {0}
+IsWithin (Taken token more) room = more ≤ room
+
+-- what was read before, and what is read after it
+abbrev pub with_front : {A : Type 0} → List A → Option (List A) → Option (List A)
+with_front front items = option_map (λ more. front ++ more) items

@@ -1,0 +1,71 @@
+-- Which tokens a text consists of (DRM 2, appendix A). It is stated of texts whose lines end with LF.
+use Rattle.std.specs.Prelude.{◌≡◌, ℕ, ◌+◌, ◌-◌, ◌*◌, ◌^◌, ◌<◌, Bool, true, false, ◌&&◌, ◌||◌, ◌==◌, nat_le, List, [], ◌∷◌, ◌++◌, length, codes, pos, fold}
+use Rattle.dy_build.specs.declared.text.token.Token.{Token}
+use Rattle.dy_build.specs.declared.text.token.Token.TheVariants.{FormatOut, Directive, Number, Open, Close, Comma, Semicolon, Plus, Minus, Times}
+
+abbrev pub is_between : ℕ → ℕ → ℕ → Bool
+is_between low high byte = nat_le low byte && nat_le byte high
+
+abbrev pub is_digit : ℕ → Bool
+is_digit byte = is_between 48 57 byte
+
+abbrev pub is_letter : ℕ → Bool
+is_letter byte = is_between 97 122 byte || is_between 65 90 byte
+
+-- `! $ % & * + - / < = > ? @ ^ _ | ~`, which names hold beside letters and digits
+abbrev pub is_graphic : ℕ → Bool
+is_graphic byte =
+    byte == 33 || byte == 36 || byte == 37 || byte == 38 || byte == 42 || byte == 43 || byte == 45 || byte == 47
+    || byte == 60 || byte == 61 || byte == 62 || byte == 63 || byte == 64 || byte == 94 || byte == 95 || byte == 124 || byte == 126
+
+abbrev pub in_name : ℕ → Bool
+in_name byte = is_letter byte || is_digit byte || is_graphic byte
+
+abbrev pub is_blank : ℕ → Bool
+is_blank byte = byte == 32 || byte == 10
+
+-- each byte passes
+abbrev pub Each : (ℕ → Bool) → List ℕ → Type 0
+Each passes [] = Unit {0}
+Each passes (byte ∷ bytes) = (passes byte ≡ true) × Each passes bytes
+
+-- the number that decimal digits stand for
+abbrev pub decimal_value : List ℕ → ℕ
+decimal_value digits = fold (λ value digit. value * 10 + (digit - 48)) 0 digits
+
+-- one digit or more, which stand for a number of 63 bits
+pub record IsNumber (value : ℕ) (bytes : List ℕ) : Type 0 where
+  pub some : 0 < length bytes
+  pub digits : Each is_digit bytes
+  pub stands : decimal_value bytes ≡ value
+  pub fits : value < 2 ^ 63
+
+-- how a token is spelled
+abbrev pub Spells : Token → List ℕ → Type 0
+Spells FormatOut bytes = bytes ≡ codes "format-out"
+Spells Directive bytes = bytes ≡ codes "\"%d\\n\""
+Spells (Number z) bytes = (value : ℕ) × (z ≡ pos value) × IsNumber value bytes
+Spells Open bytes = bytes ≡ codes "("
+Spells Close bytes = bytes ≡ codes ")"
+Spells Comma bytes = bytes ≡ codes ","
+Spells Semicolon bytes = bytes ≡ codes ";"
+Spells Plus bytes = bytes ≡ codes "+"
+Spells Minus bytes = bytes ≡ codes "-"
+Spells Times bytes = bytes ≡ codes "*"
+
+-- the text does not begin with such a byte
+abbrev pub BeginsWithout : (ℕ → Bool) → List ℕ → Type 0
+BeginsWithout passes [] = Unit {0}
+BeginsWithout passes (byte ∷ bytes) = passes byte ≡ false
+
+-- A name and a number are as long as they can be.
+abbrev pub EndsBefore : Token → List ℕ → Type 0
+EndsBefore FormatOut rest = BeginsWithout in_name rest
+EndsBefore (Number z) rest = BeginsWithout is_digit rest
+EndsBefore _ rest = Unit {0}
+
+-- the text is these tokens, with blanks between them
+pub data Lexes : List ℕ → List Token → Type 0 where
+  nothing : Lexes [] []
+  blank : (byte : ℕ) (rest : List ℕ) (tokens : List Token) → is_blank byte ≡ true → Lexes rest tokens → Lexes (byte ∷ rest) tokens
+  token : (first : Token) (bytes rest text : List ℕ) (tokens : List Token) → text ≡ bytes ++ rest → Spells first bytes → EndsBefore first rest → Lexes rest tokens → Lexes text (first ∷ tokens)

@@ -1,0 +1,188 @@
+//! The commands, from their words to the exit status.
+
+ghost use Rattle.std.specs.Prelude.{◌≡◌, ◌≢◌, ◌≤◌, ◌⊎◌, ◌↔◌, ℕ, List, Some, None, map, string_bytes};
+ghost use Rattle.dy_io.specs.Causes.{Rose};
+ghost use Rattle.dy_io.specs.Files.{FileMap};
+ghost use Rattle.dy_term.specs.Core.{seen_program};
+ghost use Rattle.dy_build.specs.Meaning.{program_meaning};
+ghost use Rattle.dy_build.specs.Machine.{Final};
+ghost use Rattle.dy_build.specs.Endings.{EndsAs};
+ghost use Rattle.dy_build.specs.Refusals.{refusal_line};
+ghost use Rattle.dy_build.specs.Outcome.{default_fuel, run_report, build_report, verdict, usage_report, outcome};
+ghost use Rattle.dy_build.specs.Command.{PutsLine, Closes, Finishes, Refuses, TellsFault, Stood, Done, SentFront, outputs};
+ghost use Rattle.dy_build.specs.Words.{build_of};
+ghost use Rattle.dy_build.specs.Layout.{Lid, lid_of, IsLid};
+ghost use Rattle.dy_build.specs.Forms.{FormTree};
+ghost use Rattle.dy_build.specs.Reading.{forms_of};
+ghost use Rattle.dy_build.specs.Grammar.{IsText};
+ghost use Rattle.dy_build.specs.Lines.{file_fault_line};
+ghost use Rattle.dy_io.specs.Sinks.{AppendsFront};
+
+use crate::refused::{Refused, file_fault_line, out_of_fuel_line, refusal_line, unhandled_line};
+use crate::run::execute::{RunEnd, run};
+use crate::run::lower::lower;
+use crate::source::{Halt, read_program};
+use crate::words::{build_words, usage};
+use dy_io::{Files, Sink, WriteFail};
+use dy_term::Program;
+use std::alloc::Global;
+
+/// The fuel where the words name none.
+pub(crate) const DEFAULT_FUEL: u64 = 10_000_000;
+
+/// Sends the last line of a command, and answers the status: the given one, or that of the failure.
+fn put_line<E: Sink>(err: &mut E, line: &[u8], status: u8) -> u8
+    ensures puts { PutsLine status line.now result (E.contents err.old) (E.contents err.new) }
+    ensures fault { result ≡ 5 → status ≢ 5 → Rose (E.faults err.old) (E.faults err.new) }
+    ensures faults { E.faults err.old ≤ E.faults err.new }
+{
+    match err.put(line) {
+        Ok(()) => status,
+        Err(WriteFail::Failed) => 5,
+        Err(WriteFail::Memory) => 6,
+    }
+}
+
+/// Sends the last line of a run that ended so, if it has one, and answers the status.
+fn finish<E: Sink>(alloc: Global, end: RunEnd, err: &mut E) -> u8
+    ensures closes { (final : Final) → EndsAs end final → Closes end final result (E.contents err.old) (E.contents err.new) }
+    ensures fault { result ≡ 5 → (end ≡ RunEnd.WriteFault) ⊎ Rose (E.faults err.old) (E.faults err.new) }
+    ensures faults { E.faults err.old ≤ E.faults err.new }
+{
+    match end {
+        RunEnd::Finished => 0,
+        RunEnd::Signalled(text) => match unhandled_line(alloc, text.as_bytes()) {
+            Ok(line) => put_line(err, &line, 1),
+            Err(_) => 6,
+        },
+        RunEnd::OutOfFuel => put_line(err, out_of_fuel_line(), 7),
+        RunEnd::WriteFault => 5,
+        RunEnd::NoMemory => 6,
+    }
+}
+
+/// Lowers and runs a program.
+fn run_program<O: Sink, E: Sink>(alloc: Global, program: &Program, out: &mut O, err: &mut E) -> u8
+    ensures finishes { Finishes (run_report (program_meaning (seen_program program.now) default_fuel)) result (outputs (O.contents out.old) (O.contents out.new) (E.contents err.old) (E.contents err.new)) }
+    ensures fault { result ≡ 5 → Rose (O.faults out.old) (O.faults out.new) ⊎ Rose (E.faults err.old) (E.faults err.new) }
+    ensures out_faults { O.faults out.old ≤ O.faults out.new }
+    ensures err_faults { E.faults err.old ≤ E.faults err.new }
+{
+    match lower(alloc, program) {
+        Ok(code) => {
+            let end = run(alloc, &code, DEFAULT_FUEL, out);
+            finish(alloc, end, err)
+        }
+        Err(_) => 6,
+    }
+}
+
+/// Sends the line of a refusal.
+fn refuse<E: Sink>(alloc: Global, why: &Refused, err: &mut E) -> u8
+    ensures puts { PutsLine 2 (refusal_line why.now) result (E.contents err.old) (E.contents err.new) }
+    ensures fault { result ≡ 5 → Rose (E.faults err.old) (E.faults err.new) }
+    ensures faults { E.faults err.old ≤ E.faults err.new }
+{
+    match refusal_line(alloc, why) {
+        Ok(line) => put_line(err, &line, 2),
+        Err(_) => 6,
+    }
+}
+
+/// Sends the line of a file that failed. The status stays where this line cannot be sent.
+fn report_fault<E: Sink>(alloc: Global, name: &[u8], err: &mut E) -> u8
+    ensures line { ((result ≡ 4) × AppendsFront (E.contents err.old) (E.contents err.new) (file_fault_line name.now)) ⊎ ((result ≡ 6) × (E.contents err.new ≡ E.contents err.old)) }
+    ensures faults { E.faults err.old ≤ E.faults err.new }
+{
+    match file_fault_line(alloc, name) {
+        Ok(line) => {
+            let _ = err.put(&line);
+            4
+        }
+        Err(_) => 6,
+    }
+}
+
+/// Builds and runs the library of a LID file.
+fn build<F: Files, O: Sink, E: Sink>(
+    alloc: Global,
+    lid: &str,
+    files: &mut F,
+    out: &mut O,
+    err: &mut E,
+) -> u8
+    ensures finishes { (held : FileMap) → F.contents files.old ≡ Some held → (result ≡ 4) ⊎ Finishes (build_report (verdict held lid.now)) result (outputs (O.contents out.old) (O.contents out.new) (E.contents err.old) (E.contents err.new)) }
+    ensures refused { result ≡ 2 → Refuses (F.misses files.old) (F.misses files.new) (outputs (O.contents out.old) (O.contents out.new) (E.contents err.old) (E.contents err.new)) }
+    ensures accepted { result ≢ 3 }
+    ensures failed { result ≡ 4 → Rose (F.faults files.old) (F.faults files.new) }
+    ensures failed_line { result ≡ 4 → TellsFault (outputs (O.contents out.old) (O.contents out.new) (E.contents err.old) (E.contents err.new)) }
+    ensures status { result ≤ 7 }
+    ensures cut { result ≡ 5 → Rose (O.faults out.old) (O.faults out.new) ⊎ Rose (E.faults err.old) (E.faults err.new) }
+    ensures contents { F.contents files.new ≡ F.contents files.old }
+    ensures misses { F.misses files.old ≤ F.misses files.new }
+    ensures faults { F.faults files.old ≤ F.faults files.new }
+    ensures out_faults { O.faults out.old ≤ O.faults out.new }
+    ensures err_faults { E.faults err.old ≤ E.faults err.new }
+{
+    match read_program(alloc, files, lid) {
+        Ok(program) => run_program(alloc, &program, out, err),
+        Err(Halt::Refused(why)) => refuse(alloc, &why, err),
+        Err(Halt::FileFault(name)) => report_fault(alloc, name.bytes(), err),
+        Err(Halt::Memory) => 6,
+    }
+}
+
+/// Does a command: `build LID` compiles, links and runs the library of a LID file. The output of
+/// the program goes to `out`, and the last line of the command, if it has one, to `err`.
+///
+/// | status | comes | on `err` |
+/// |---|---|---|
+/// | 0 | the program ended | nothing |
+/// | 1 | the program ended by an error that nothing handled | `unhandled <simple-error>: TEXT` |
+/// | 2 | the library is refused | the line of the refusal |
+/// | 3 | the words are not accepted | the usage |
+/// | 4 | a file failed | `file fault: NAME` |
+/// | 5 | a sink failed | nothing more |
+/// | 6 | memory ran out | nothing more |
+/// | 7 | the fuel of 10,000,000 units ended first | `out of fuel` |
+///
+/// After 5 and 6 a front of the whole output was sent.
+pub fn run_words<F: Files, O: Sink, E: Sink>(
+    alloc: Global,
+    words: &Vec<String>,
+    files: &mut F,
+    out: &mut O,
+    err: &mut E,
+) -> u8
+    // Where nothing fails, the status and what was sent are those of the words' outcome.
+    ensures outcome { (held : FileMap) → F.contents files.old ≡ Some held → Stood (F.faults files.old) (F.faults files.new) → Stood (O.faults out.old) (O.faults out.new) → Stood (E.faults err.old) (E.faults err.new) → result ≢ 6
+        → Done (outcome (map string_bytes words.now.items) held) result (outputs (O.contents out.old) (O.contents out.new) (E.contents err.old) (E.contents err.new)) }
+    ensures cut_short { (held : FileMap) → F.contents files.old ≡ Some held → (result ≡ 5) ⊎ (result ≡ 6)
+        → SentFront (outcome (map string_bytes words.now.items) held) (outputs (O.contents out.old) (O.contents out.new) (E.contents err.old) (E.contents err.new)) }
+
+    // Each status has its cause, whatever the files tell.
+    ensures refused { result ≡ 2 → Refuses (F.misses files.old) (F.misses files.new) (outputs (O.contents out.old) (O.contents out.new) (E.contents err.old) (E.contents err.new)) }
+    ensures usage_only { result ≡ 3 → build_of (map string_bytes words.now.items) ≡ None }
+    ensures usage { build_of (map string_bytes words.now.items) ≡ None → Stood (E.faults err.old) (E.faults err.new) → result ≢ 6
+        → Done usage_report result (outputs (O.contents out.old) (O.contents out.new) (E.contents err.old) (E.contents err.new)) }
+    ensures failed { result ≡ 4 → Rose (F.faults files.old) (F.faults files.new) }
+    ensures failed_line { result ≡ 4 → TellsFault (outputs (O.contents out.old) (O.contents out.new) (E.contents err.old) (E.contents err.new)) }
+    ensures cut { result ≡ 5 → Rose (O.faults out.old) (O.faults out.new) ⊎ Rose (E.faults err.old) (E.faults err.new) }
+    ensures status { result ≤ 7 }
+
+    // No file is written, and no count falls.
+    ensures contents { F.contents files.new ≡ F.contents files.old }
+    ensures misses { F.misses files.old ≤ F.misses files.new }
+    ensures faults { F.faults files.old ≤ F.faults files.new }
+    ensures out_faults { O.faults out.old ≤ O.faults out.new }
+    ensures err_faults { E.faults err.old ≤ E.faults err.new }
+
+    // What the outcome reads in a file is exactly what the file's text stands for.
+    ensures lids { (text : List ℕ) (lid : Lid) → (lid_of text ≡ Some lid) ↔ IsLid text lid }
+    ensures texts { (text : List ℕ) (forms : List FormTree) → (forms_of text ≡ Some forms) ↔ IsText text forms }
+{
+    match build_words(words) {
+        Some(lid) => build(alloc, lid, files, out, err),
+        None => put_line(err, usage(), 3),
+    }
+}

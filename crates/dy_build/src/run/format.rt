@@ -1,0 +1,70 @@
+//! Texts with directives.
+
+ghost use Rattle.std.specs.Prelude.{◌≡◌, ◌<◌, ◌≤◌, IfOk, length, option_copied};
+ghost use Rattle.dy_build.specs.Meaning.{formatted};
+ghost use Rattle.dy_build.specs.Results.{seen_formatted, after_letter, next_number, seen_next};
+
+use crate::run::value::Value;
+use itoa::Buffer;
+use std::alloc::{AllocError, Global};
+
+/// What a text with directives comes to.
+#[derive(Debug, Drop)]
+pub(crate) enum Formatted {
+    /// The text, and how many values stand in it.
+    Done(Vec<u8>, u64),
+    /// A simple error is signalled, with this text.
+    Failed(&'static str),
+}
+
+/// The next argument, where it is an integer, and those after it.
+fn next_number<'a>(arguments: &'a [Value]) -> Option<(i64, &'a [Value])>
+    ensures { seen_next result ≡ next_number arguments.now }
+{
+    match arguments {
+        [Value::Int(value), others @ ..] => Some((*value, others)),
+        _ => None,
+    }
+}
+
+/// What follows the letter of a directive, where that is `d`.
+fn after_letter(text: &[u8]) -> Option<&[u8]>
+    ensures { option_copied result ≡ after_letter text.now }
+{
+    match text {
+        [b'd', after @ ..] => Some(after),
+        _ => None,
+    }
+}
+
+/// The text with each directive `%d` replaced by the next argument (DRM 12, "format").
+pub(crate) fn format(
+    alloc: Global,
+    text: &[u8],
+    arguments: &[Value],
+) -> Result<Formatted, AllocError>
+    ensures { IfOk result (λ r. seen_formatted r ≡ formatted text.now arguments.now) }
+{
+    let mut piece = Vec::new(alloc);
+    let mut printed: u64 = 0;
+    let mut rest = text;
+    let mut left = arguments;
+    while let Some((byte, after)) = rest.split_first() {
+        if *byte == b'%' {
+            let Some(after) = after_letter(after) else {
+                return Ok(Formatted::Failed("format directive"));
+            };
+            let Some((value, others)) = next_number(left) else {
+                return Ok(Formatted::Failed("format directive"));
+            };
+            piece.extend_from_slice(Buffer::new().format(value).as_bytes())?;
+            printed += 1;
+            rest = after;
+            left = others;
+        } else {
+            piece.push(*byte)?;
+            rest = after;
+        }
+    }
+    Ok(Formatted::Done(piece, printed))
+}

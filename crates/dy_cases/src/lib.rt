@@ -1,0 +1,5 @@
+//! Commands that are run, and what they print.
+#![tactic(auto)]
+
+#[cfg(test)]
+mod tests;
