@@ -1,10 +1,9 @@
 -- The characters of a literal are read as they are spelled.
 use Rattle.std.proofs.Common.{◌≡◌, ℕ, ◌+◌, ◌*◌, ◌↔◌, Bool, true, false, cond, List, [], ◌∷◌, Option, Some, None, refl, sym, ap, subst, ◌∙◌}
-use Rattle.std.proofs.lemmas.Bool.{eqb-true, eq-eqb, false≢true}
+use Rattle.std.proofs.lemmas.Bool.{eqb-true}
 use Rattle.std.proofs.Math.Dec.{eqb}
 use Rattle.dy_lexer.specs.declared.spelling.Spelling.{Spelling}
 use Rattle.dy_lexer.specs.declared.spelling.Spelling.TheVariants.{Plain, Escape, Open, Digit, Digits}
-use Rattle.dy_lexer.specs.declared.spelling.Read.{Read}
 use Rattle.dy_lexer.specs.declared.spelling.Read.TheVariants.{Value, GoesOn, Wrong}
 use Rattle.dy_lexer.specs.Bytes.{digit_of}
 use Rattle.dy_lexer.specs.Scan.{escape_of, is_plain, value_and, spelled, given, digit_read, decoded, decoded_from}

@@ -1,5 +1,5 @@
 -- How characters are spelled inside of literals (DRM 2, "Lexical syntax").
-use Rattle.std.specs.Prelude.{◌≡◌, ℕ, ◌+◌, ◌*◌, Bool, true, false, ◌==◌, List, [], ◌∷◌, Option, Some, None}
+use Rattle.std.specs.Prelude.{◌≡◌, ℕ, ◌+◌, ◌*◌, Bool, true, false, ◌==◌, List, [], ◌∷◌, Some}
 use Rattle.dy_lexer.specs.Bytes.{digit_of}
 use Rattle.dy_lexer.specs.Scan.{escape_of, is_plain}
 
