@@ -1,5 +1,5 @@
 -- The next piece after a backslash.
-use Rattle.std.proofs.Common.{◌≡◌, ℕ, zero, suc, ◌+◌, ◌<◌, ◌≤◌, ◌⊎◌, inl, inr, Bool, true, false, ◌&&◌, cond, List, [], ◌∷◌, ◌++◌, length, take, drop, Result, Ok, Err, Option, Some, None, refl, sym, ap, subst, ◌∙◌, arith}
+use Rattle.std.proofs.Common.{◌≡◌, ℕ, suc, ◌+◌, ◌≤◌, ◌⊎◌, inl, inr, Bool, true, false, cond, List, ◌∷◌, ◌++◌, length, take, drop, Ok, Err, Option, Some, None, refl, sym, ap, subst, ◌∙◌, arith}
 use Rattle.std.proofs.lemmas.List.{length-take, take-append-drop, take_at, length-append}
 use Rattle.std.proofs.lemmas.Bool.{le-leb, leb-true}
 use Rattle.std.proofs.Math.Dec.{leb}
@@ -11,11 +11,11 @@ use Rattle.dy_lexer.specs.declared.class.Piece.TheVariants.{Token}
 use Rattle.dy_lexer.specs.declared.class.Class.TheVariants.{Backslash}
 use Rattle.dy_lexer.specs.Bytes.{class_of, in_name}
 use Rattle.dy_lexer.specs.Words.{escapable, is_listed}
-use Rattle.dy_lexer.specs.Pieces.{name_len, escapable_front, escaped_operator, escaped}
+use Rattle.dy_lexer.specs.Pieces.{name_len, escapable_front, escaped}
 use Rattle.dy_lexer.specs.Forms.{IsForm, IsName}
 use Rattle.dy_lexer.proofs.Runs.{same_value, not_none, name_of, name_splits}
 use Rattle.dy_lexer.proofs.Lists.{listed_passes, opposite, and_left, and_right}
-use Rattle.dy_lexer.proofs.Heads.{byte_of, starts, Within, within_le, Best, Answers, most_of, stuck_at, not_broken}
+use Rattle.dy_lexer.proofs.Heads.{byte_of, starts, Within, within_le, Answers, most_of, stuck_at, not_broken}
 use Rattle.dy_lexer.proofs.Signs.{no_name, sign_below, Short, is_short, short_lengths}
 
 abbrev IsWord : List ℕ → Type 0

@@ -1,5 +1,5 @@
 -- The next piece after #.
-use Rattle.std.proofs.Common.{◌≡◌, ℕ, zero, suc, ◌+◌, ◌<◌, ◌≤◌, ◌⊎◌, inl, inr, Bool, true, false, ◌||◌, cond, List, [], ◌∷◌, ◌++◌, length, take, drop, Result, Ok, Err, Option, Some, None, refl, sym, ap, subst, ◌∙◌, arith}
+use Rattle.std.proofs.Common.{◌≡◌, ℕ, zero, suc, ◌+◌, ◌<◌, ◌≤◌, ◌⊎◌, inl, inr, Bool, true, false, ◌||◌, cond, List, [], ◌∷◌, ◌++◌, length, Ok, Err, Option, Some, None, refl, sym, ap, subst, ◌∙◌, arith}
 use Rattle.std.proofs.lemmas.Bool.{eqb-true, eq-eqb, false≢true}
 use Rattle.std.proofs.Math.Dec.{eqb}
 use Rattle.std.specs.List.{prefix_len}
@@ -14,11 +14,11 @@ use Rattle.dy_lexer.specs.declared.class.Class.TheVariants.{Hash, Letter, Digit,
 use Rattle.dy_lexer.specs.Bytes.{class_of, in_base, base_of}
 use Rattle.dy_lexer.specs.Words.{punctuation, marks, is_listed, front_in}
 use Rattle.dy_lexer.specs.Scan.{literal_step, literal_end}
-use Rattle.dy_lexer.specs.Pieces.{Found, closed, number_at, marked, hash_at}
+use Rattle.dy_lexer.specs.Pieces.{closed, number_at, marked, hash_at}
 use Rattle.dy_lexer.specs.Forms.{IsForm, IsBroken, IsName, IsClosed, Each}
 use Rattle.dy_lexer.proofs.Runs.{run_splits, run_longest, same_value, not_none, stable, splits}
 use Rattle.dy_lexer.proofs.Lists.{listed_passes, opposite, or_cases, front_found, front_splits}
-use Rattle.dy_lexer.proofs.Heads.{byte_of, starts, head_is, Within, within_le, Best, Answers, most_of, stuck_at}
+use Rattle.dy_lexer.proofs.Heads.{byte_of, starts, head_is, Within, within_le, Answers, most_of, stuck_at}
 use Rattle.dy_lexer.proofs.Simple.{heads}
 
 -- the first letters of the marks

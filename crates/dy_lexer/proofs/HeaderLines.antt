@@ -2,13 +2,11 @@
 use Rattle.std.proofs.Common.{◌≡◌, ℕ, zero, suc, ◌+◌, ◌-◌, ◌<◌, ◌≤◌, ◌⊎◌, inl, inr, Bool, true, false, cond, List, [], ◌∷◌, ◌++◌, length, take, drop, refl, sym, ap, subst, ◌∙◌, append_assoc, arith}
 use Rattle.std.specs.Prelude.{nat_lt}
 use Rattle.std.specs.List.{prefix_len}
-use Rattle.std.proofs.Math.Dec.{eqb, leb}
-use Rattle.std.proofs.lemmas.Bool.{eqb-true, le-leb, leb-true, false≢true}
-use Rattle.std.proofs.lemmas.List.{append-nil, take_at, drop_at, drop_all, length-append, take-append-drop, length-take}
-use Rattle.std.proofs.lemmas.List.Sums.{prefix_len-le-length}
+use Rattle.std.proofs.Math.Dec.{eqb}
+use Rattle.std.proofs.lemmas.Bool.{eqb-true, le-leb, leb-true}
+use Rattle.std.proofs.lemmas.List.{take_at, drop_at, drop_all, length-append, take-append-drop}
 use Rattle.dy_lexer.specs.declared.header.Head.{Head}
 use Rattle.dy_lexer.specs.Bytes.{in_line}
-use Rattle.dy_lexer.specs.Words.{is_same}
 use Rattle.dy_lexer.specs.Headers.{ends_return, without_return, line_of, line_size, is_empty_line, line_read, start, Opened, opened, header_from, Line, AllIn, IsLine, Lines, ends, empty, goes, lines_read, IsHeader}
 use Rattle.dy_lexer.specs.Sources.{header_of}
 use Rattle.dy_lexer.proofs.Lists.{same_text}

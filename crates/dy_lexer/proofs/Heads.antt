@@ -1,20 +1,18 @@
 -- What the first byte of a piece says of its kind.
-use Rattle.std.proofs.Common.{◌≡◌, ℕ, zero, suc, ◌+◌, ◌<◌, ◌≤◌, ◌⊎◌, inl, inr, Bool, true, false, ◌&&◌, ◌||◌, cond, List, [], ◌∷◌, ◌++◌, length, Result, Ok, Err, Option, Some, None, refl, sym, ap, subst, ◌∙◌, arith}
+use Rattle.std.proofs.Common.{◌≡◌, ℕ, suc, ◌<◌, ◌≤◌, ◌⊎◌, inl, inr, Bool, true, false, cond, List, [], ◌∷◌, ◌++◌, length, Ok, Err, refl, sym, ap, subst, ◌∙◌, arith}
 use Rattle.std.proofs.lemmas.Bool.{eqb-true}
 use Rattle.std.proofs.Math.Dec.{eqb}
 use Rattle.std.proofs.Math.Nat.{eq-or-lt_of_le}
 use Rattle.dy_base.specs.declared.kind.Kind.{Kind}
-use Rattle.dy_base.specs.declared.kind.Kind.TheVariants.{BadByte, OpenComment, OpenString, BadLiteral}
-use Rattle.dy_tree.specs.declared.token.TokenKind.{TokenKind}
 use Rattle.dy_tree.specs.declared.token.TokenKind.TheVariants as kinds
 use Rattle.dy_lexer.specs.declared.class.Piece.{Piece}
 use Rattle.dy_lexer.specs.declared.class.Piece.TheVariants.{Token, Comment, Blank}
 use Rattle.dy_lexer.specs.declared.class.Class.{Class}
 use Rattle.dy_lexer.specs.declared.class.Class.TheVariants.{Letter, Digit, Graphic, Joint, Sign, Slash, Hash, Question, Backslash, SingleQuote, DoubleQuote, Space, Other}
 use Rattle.dy_lexer.specs.Bytes.{within, is_letter_byte, is_space_byte, is_graphic, is_joint_byte, is_sign_byte, one_byte_class, class_of}
-use Rattle.dy_lexer.specs.Words.{operators, punctuation, is_listed}
+use Rattle.dy_lexer.specs.Words.{operators, punctuation}
 use Rattle.dy_lexer.specs.Pieces.{Found}
-use Rattle.dy_lexer.specs.Forms.{IsForm, IsBroken, IsOpenLiteral, Stuck, IsFault, stuck_fault, class_fault}
+use Rattle.dy_lexer.specs.Forms.{IsForm, IsBroken, IsOpenLiteral, IsFault, class_fault}
 use Rattle.dy_lexer.proofs.Lists.{listed_passes}
 
 -- ---- classes of one byte

@@ -1,6 +1,5 @@
 -- A token after others, from what stands last.
-use Rattle.std.proofs.Common.{◌≡◌, ℕ, Bool, true, false, ◌&&◌, List, [], ◌∷◌, ◌++◌, Result, Ok, Err, Option, Some, None, refl, sym, ap, ◌∙◌, append_assoc}
-use Rattle.dy_base.specs.declared.fault.Fault.{Fault}
+use Rattle.std.proofs.Common.{◌≡◌, ℕ, Bool, true, false, ◌&&◌, List, [], ◌∷◌, ◌++◌, Ok, Option, Some, None, refl, sym, ap, append_assoc}
 use Rattle.dy_base.specs.declared.fault.Place.{Place}
 use Rattle.dy_tree.specs.declared.token.Token.{Token}
 use Rattle.dy_lexer.specs.Tokens.{OneToken, Tokens, is_string, joined_pair, with_token, added, characters, string_after}

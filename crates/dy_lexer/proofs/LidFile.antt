@@ -1,12 +1,11 @@
 -- What is read of a LID file.
-use Rattle.std.proofs.Common.{◌≡◌, ℕ, true, false, List, [], ◌∷◌, length, Result, Ok, Err, Option, Some, None, refl, sym, ap, subst, ◌∙◌}
+use Rattle.std.proofs.Common.{◌≡◌, ℕ, true, List, Result, Ok, Err, refl, ap, ◌∙◌}
 use Rattle.dy_base.specs.declared.fault.Fault.{Fault}
 use Rattle.dy_base.specs.declared.fault.Refusal.{Refusal}
 use Rattle.dy_base.specs.declared.fault.Refusal.TheVariants as refusals
 use Rattle.dy_lexer.specs.declared.source.Lid.{Lid}
-use Rattle.dy_lexer.specs.declared.header.Head.{Head}
 use Rattle.dy_lexer.specs.Tokens.{Gives}
-use Rattle.dy_lexer.specs.Headers.{Opened, opened}
+use Rattle.dy_lexer.specs.Headers.{Opened}
 use Rattle.dy_lexer.specs.Sources.{header_of, header_fault, lid_from, placed, lid_of, IsLid, IsLidFault, IsLidReading, Reads, Refuses}
 use Rattle.dy_lexer.proofs.HeaderLines.{header_is, some_header}
 

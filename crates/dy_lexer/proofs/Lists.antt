@@ -1,10 +1,10 @@
 -- Laws of the tables of fixed spellings.
-use Rattle.std.proofs.Common.{◌≡◌, ℕ, zero, suc, ◌+◌, ◌<◌, ◌≤◌, ◌⊎◌, inl, inr, Bool, true, false, ◌&&◌, ◌||◌, cond, List, [], ◌∷◌, ◌++◌, length, map, Option, Some, None, refl, sym, ap, subst, ◌∙◌, arith}
-use Rattle.std.proofs.lemmas.Bool.{le-leb, leb-true, eqb-true, eq-eqb, false≢true}
+use Rattle.std.proofs.Common.{◌≡◌, ℕ, suc, ◌≤◌, ◌⊎◌, inl, inr, Bool, true, false, ◌&&◌, ◌||◌, cond, List, [], ◌∷◌, ◌++◌, length, Option, Some, refl, sym, ap, subst, arith}
+use Rattle.std.proofs.lemmas.Bool.{leb-true, eqb-true, eq-eqb}
 use Rattle.std.proofs.Math.Dec.{eqb, leb}
 use Rattle.dy_base.specs.Folding.{folded_byte, folded}
 use Rattle.dy_lexer.specs.Words.{is_same, is_listed, begins, front_in}
-use Rattle.dy_lexer.proofs.Runs.{some, some_same}
+use Rattle.dy_lexer.proofs.Runs.{some_same}
 
 pub and_left : (a b : Bool) → (a && b) ≡ true → a ≡ true
 and_left true b e = refl

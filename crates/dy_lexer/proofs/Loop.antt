@@ -1,5 +1,5 @@
 -- One turn of the loop over the pieces.
-use Rattle.std.proofs.Common.{◌≡◌, ℕ, zero, suc, ◌+◌, ◌<◌, ◌≤◌, List, [], ◌∷◌, ◌++◌, length, take, drop, Result, Ok, Err, Option, Some, None, refl, sym, ap, ◌∙◌, arith}
+use Rattle.std.proofs.Common.{◌≡◌, ℕ, zero, suc, ◌+◌, ◌<◌, ◌≤◌, List, [], ◌∷◌, length, take, drop, Result, Ok, Err, Option, Some, None, refl, ap, ◌∙◌, arith}
 use Rattle.dy_base.specs.declared.kind.Kind.{Kind}
 use Rattle.dy_base.specs.declared.fault.Place.{Place}
 use Rattle.dy_base.specs.declared.fault.Fault.{Fault}
@@ -7,7 +7,7 @@ use Rattle.dy_base.specs.declared.fault.Refusal.{Refusal}
 use Rattle.dy_base.specs.declared.fault.Refusal.TheVariants as refusals
 use Rattle.dy_tree.specs.declared.token.Token.{Token}
 use Rattle.dy_lexer.specs.declared.class.Piece.{Piece}
-use Rattle.dy_lexer.specs.Pieces.{Found, piece_at}
+use Rattle.dy_lexer.specs.Pieces.{piece_at}
 use Rattle.dy_lexer.specs.Tokens.{Tokens, Fails, fault_at, token_at, before, after_token, after_piece, tokens_of, with_token, with_tokens, added_piece, joined_after}
 
 abbrev pub place : ℕ → ℕ → Place

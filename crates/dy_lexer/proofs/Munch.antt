@@ -1,18 +1,14 @@
 -- The next piece is the longest front that has a form; else no piece begins there.
-use Rattle.std.proofs.Common.{◌≡◌, ℕ, zero, suc, ◌+◌, ◌<◌, ◌≤◌, ◌⊎◌, inl, inr, Bool, true, false, List, [], ◌∷◌, ◌++◌, length, take, drop, Result, Ok, Err, Option, Some, None, refl, sym, ap, subst, ◌∙◌, arith}
-use Rattle.std.specs.List.{prefix_len}
+use Rattle.std.proofs.Common.{◌≡◌, ℕ, ◌<◌, ◌≤◌, inl, inr, false, List, [], ◌∷◌, ◌++◌, length, Ok, Err, refl, sym, ap, ◌∙◌, arith}
 use Rattle.dy_base.specs.declared.kind.Kind.{Kind}
-use Rattle.dy_base.specs.declared.kind.Kind.TheVariants.{BadByte, OpenComment, OpenString, BadLiteral}
-use Rattle.dy_tree.specs.declared.token.TokenKind.TheVariants as kinds
 use Rattle.dy_lexer.specs.declared.class.Piece.{Piece}
-use Rattle.dy_lexer.specs.declared.class.Piece.TheVariants.{Token, Comment, Blank}
 use Rattle.dy_lexer.specs.declared.class.Class.{Class}
 use Rattle.dy_lexer.specs.declared.class.Class.TheVariants.{Letter, Digit, Graphic, Joint, Sign, Slash, Hash, Question, Backslash, SingleQuote, DoubleQuote, Space, Other}
-use Rattle.dy_lexer.specs.Bytes.{class_of, in_name}
+use Rattle.dy_lexer.specs.Bytes.{class_of}
 use Rattle.dy_lexer.specs.Scan.{literal_end}
 use Rattle.dy_lexer.specs.Pieces.{Found, name_len, piece_from, piece_at}
-use Rattle.dy_lexer.specs.Forms.{IsForm, IsBroken, IsOpenComment, IsOpenLiteral, Begins, Stuck, IsFault}
-use Rattle.dy_lexer.proofs.Heads.{not_empty, Within, Best, Answers, not_broken}
+use Rattle.dy_lexer.specs.Forms.{IsForm, IsBroken, IsOpenComment, IsOpenLiteral, Begins, IsFault}
+use Rattle.dy_lexer.proofs.Heads.{not_empty, Within, Answers, not_broken}
 use Rattle.dy_lexer.proofs.Simple.{heads, digit_answers, space_answers, other_answers, character_answers, string_answers, slash_answers}
 use Rattle.dy_lexer.proofs.Named.{letter_only, graphic_only, joint_only, sign_only, sign_answers, named_answers}
 use Rattle.dy_lexer.proofs.Escaped.{escaped_answers}

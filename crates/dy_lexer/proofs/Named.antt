@@ -1,8 +1,8 @@
 -- The next piece where it is a name, a symbol or a sign; and after a backslash.
-use Rattle.std.proofs.Common.{◌≡◌, ℕ, zero, suc, ◌+◌, ◌<◌, ◌≤◌, ◌⊎◌, inl, inr, Bool, true, false, ◌&&◌, cond, List, [], ◌∷◌, ◌++◌, length, take, drop, Result, Ok, Err, Option, Some, None, refl, sym, ap, subst, ◌∙◌, append_assoc, arith}
-use Rattle.std.proofs.lemmas.List.{length-take, take-append-drop, take_at, drop_at, length-append}
-use Rattle.std.proofs.lemmas.Bool.{le-leb, leb-true, eqb-true, eq-eqb, false≢true}
-use Rattle.std.proofs.Math.Dec.{eqb, leb}
+use Rattle.std.proofs.Common.{◌≡◌, ℕ, suc, ◌+◌, inl, inr, Bool, true, false, cond, List, [], ◌∷◌, ◌++◌, length, take, drop, Ok, Err, Option, Some, None, refl, sym, ap, subst, ◌∙◌, append_assoc, arith}
+use Rattle.std.proofs.lemmas.List.{length-take, take-append-drop, drop_at, length-append}
+use Rattle.std.proofs.lemmas.Bool.{eqb-true}
+use Rattle.std.proofs.Math.Dec.{eqb}
 use Rattle.std.specs.List.{prefix_len}
 use Rattle.dy_base.specs.declared.kind.Kind.{Kind}
 use Rattle.dy_base.specs.declared.kind.Kind.TheVariants.{BadByte}
@@ -11,15 +11,14 @@ use Rattle.dy_tree.specs.declared.token.TokenKind.TheVariants as kinds
 use Rattle.dy_lexer.specs.declared.class.Piece.{Piece}
 use Rattle.dy_lexer.specs.declared.class.Piece.TheVariants.{Token, Comment, Blank}
 use Rattle.dy_lexer.specs.declared.class.Class.{Class}
-use Rattle.dy_lexer.specs.declared.class.Class.TheVariants.{Letter, Digit, Graphic, Joint, Sign, Slash, Hash, Question, Backslash, SingleQuote, DoubleQuote, Space, Other}
+use Rattle.dy_lexer.specs.declared.class.Class.TheVariants.{Letter, Graphic, Joint, Sign}
 use Rattle.dy_lexer.specs.Bytes.{class_of, in_name}
-use Rattle.dy_lexer.specs.Words.{operators, punctuation, escapable, is_listed, sign_of}
-use Rattle.dy_lexer.specs.Pieces.{Found, name_from, name_len, is_alone, ends_symbol, word_after, front, or_sign, sign_at, named, escapable_front, escaped_operator, escaped}
+use Rattle.dy_lexer.specs.Pieces.{name_len, is_alone, ends_symbol, front, or_sign, sign_at, named}
 use Rattle.dy_lexer.specs.Forms.{IsForm, IsBroken, IsName, class_fault}
-use Rattle.dy_lexer.proofs.Runs.{some, some_same, same_value, not_none, name_of, name_splits}
-use Rattle.dy_lexer.proofs.Lists.{listed_passes, opposite, and_left, and_right}
-use Rattle.dy_lexer.proofs.Heads.{byte_of, starts, Within, within_le, Best, Answers, most_of, none_of, stuck_at, not_broken}
-use Rattle.dy_lexer.proofs.Signs.{Signed, signed_form, signed_short, front_signed, front_splits, name_some, no_name, sign_below, signed_below, Short, is_short, short_lengths}
+use Rattle.dy_lexer.proofs.Runs.{some_same, same_value, not_none, name_of, name_splits}
+use Rattle.dy_lexer.proofs.Lists.{opposite}
+use Rattle.dy_lexer.proofs.Heads.{starts, Within, within_le, Answers, most_of, stuck_at}
+use Rattle.dy_lexer.proofs.Signs.{Signed, signed_form, signed_short, front_signed, front_splits, signed_below, Short}
 
 -- the kinds that begin with a letter, a graphic character or a sign
 abbrev pub Wordlike : Piece → Type 0

@@ -1,7 +1,6 @@
 -- Where no name begins.
-use Rattle.std.proofs.Common.{◌≡◌, ℕ, zero, suc, ◌+◌, ◌-◌, ◌<◌, ◌≤◌, List, [], ◌∷◌, length, get_or, drop, Option, Some, None, refl, sym, ap, ◌∙◌, below_more, arith}
+use Rattle.std.proofs.Common.{◌≡◌, ℕ, ◌+◌, ◌-◌, ◌<◌, List, length, get_or, drop, None, refl, ap, ◌∙◌, below_more, arith}
 use Rattle.std.proofs.lemmas.List.{drop-drop}
-use Rattle.dy_lexer.specs.declared.class.Class.{Class}
 use Rattle.dy_lexer.specs.declared.class.Class.TheVariants.{Graphic}
 use Rattle.dy_lexer.specs.Bytes.{class_of}
 use Rattle.dy_lexer.specs.Scan.{plus}

@@ -1,5 +1,5 @@
 -- One turn of the loop over the lines of a header.
-use Rattle.std.proofs.Common.{◌≡◌, ℕ, zero, suc, ◌+◌, ◌<◌, ◌≤◌, Bool, true, false, cond, List, [], ◌∷◌, length, drop, refl, sym, ap, ◌∙◌, arith}
+use Rattle.std.proofs.Common.{◌≡◌, ℕ, zero, suc, ◌+◌, ◌<◌, ◌≤◌, Bool, true, false, cond, List, [], ◌∷◌, length, drop, refl, ap, ◌∙◌, arith}
 use Rattle.std.proofs.lemmas.List.{drop-drop}
 use Rattle.dy_lexer.specs.declared.header.Head.{Head}
 use Rattle.dy_lexer.specs.Headers.{line_of, line_size, is_empty_line, line_read, Opened, opened, header_from}

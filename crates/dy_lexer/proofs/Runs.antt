@@ -1,8 +1,8 @@
 -- Laws of runs, names and automata, which each form needs.
-use Rattle.std.proofs.Common.{◌≡◌, ℕ, zero, suc, ◌+◌, ◌<◌, ◌≤◌, ◌⊎◌, inl, inr, Bool, true, false, cond, List, [], ◌∷◌, ◌++◌, length, Option, Some, None, refl, sym, ap, ◌∙◌, arith}
+use Rattle.std.proofs.Common.{◌≡◌, ℕ, ◌+◌, inl, inr, Bool, true, false, cond, List, [], ◌∷◌, ◌++◌, length, Option, Some, None, refl, sym, ap, ◌∙◌, arith}
 use Rattle.std.specs.List.{prefix_len}
 use Rattle.dy_lexer.specs.declared.class.Class.{Class}
-use Rattle.dy_lexer.specs.declared.class.Class.TheVariants.{Letter, Digit, Graphic, Joint, Sign, Slash, Hash, Question, Backslash, SingleQuote, DoubleQuote, Space, Other}
+use Rattle.dy_lexer.specs.declared.class.Class.TheVariants.{Letter, Graphic}
 use Rattle.dy_lexer.specs.Bytes.{class_of, in_name}
 use Rattle.dy_lexer.specs.Scan.{plus, Turn, Goes, Stops, Fails, turned, scan}
 use Rattle.dy_lexer.specs.Pieces.{name_from, name_len}

@@ -1,24 +1,20 @@
 -- Operators and punctuation: the longest of their tables; and names beside them.
-use Rattle.std.proofs.Common.{◌≡◌, ℕ, zero, suc, ◌+◌, ◌<◌, ◌≤◌, ◌⊎◌, inl, inr, Bool, true, false, ◌&&◌, ◌||◌, cond, List, [], ◌∷◌, ◌++◌, length, take, drop, Result, Ok, Err, Option, Some, None, refl, sym, ap, subst, ◌∙◌, append_assoc, arith}
-use Rattle.std.proofs.lemmas.List.{length-take, take-append-drop, take_at, drop_at, length-append}
-use Rattle.std.proofs.lemmas.Bool.{le-leb, leb-true, eqb-true, eq-eqb, false≢true}
-use Rattle.std.proofs.Math.Dec.{eqb, leb}
+use Rattle.std.proofs.Common.{◌≡◌, ℕ, ◌+◌, ◌<◌, ◌≤◌, ◌⊎◌, inl, inr, Bool, true, false, ◌&&◌, ◌||◌, cond, List, [], ◌∷◌, ◌++◌, length, take, Option, Some, None, refl, ap, subst, ◌∙◌, arith}
+use Rattle.std.proofs.lemmas.List.{take_at, length-append}
+use Rattle.std.proofs.lemmas.Bool.{le-leb, leb-true}
+use Rattle.std.proofs.Math.Dec.{leb}
 use Rattle.std.specs.List.{prefix_len}
-use Rattle.dy_base.specs.declared.kind.Kind.{Kind}
-use Rattle.dy_base.specs.declared.kind.Kind.TheVariants.{BadByte}
 use Rattle.dy_tree.specs.declared.token.TokenKind.{TokenKind}
 use Rattle.dy_tree.specs.declared.token.TokenKind.TheVariants as kinds
-use Rattle.dy_lexer.specs.declared.class.Piece.{Piece}
-use Rattle.dy_lexer.specs.declared.class.Piece.TheVariants.{Token, Comment, Blank}
+use Rattle.dy_lexer.specs.declared.class.Piece.TheVariants.{Token}
 use Rattle.dy_lexer.specs.declared.class.Class.{Class}
-use Rattle.dy_lexer.specs.declared.class.Class.TheVariants.{Letter, Digit, Graphic, Joint, Sign, Slash, Hash, Question, Backslash, SingleQuote, DoubleQuote, Space, Other}
+use Rattle.dy_lexer.specs.declared.class.Class.TheVariants.{Letter, Graphic}
 use Rattle.dy_lexer.specs.Bytes.{class_of, in_name}
-use Rattle.dy_lexer.specs.Words.{operators, punctuation, escapable, is_listed, sign_of}
-use Rattle.dy_lexer.specs.Scan.{plus}
+use Rattle.dy_lexer.specs.Words.{operators, punctuation, is_listed, sign_of}
 use Rattle.dy_lexer.specs.Pieces.{name_from, name_len, front}
 use Rattle.dy_lexer.specs.Forms.{IsForm, IsName}
-use Rattle.dy_lexer.proofs.Runs.{some_same, not_none, name_of, name_splits}
-use Rattle.dy_lexer.proofs.Lists.{listed_passes, opposite, and_left, and_right, or_cases}
+use Rattle.dy_lexer.proofs.Runs.{some_same, not_none, name_splits}
+use Rattle.dy_lexer.proofs.Lists.{listed_passes, and_left, and_right, or_cases}
 
 -- ---- the kinds of the tables
 

@@ -1,24 +1,22 @@
 -- The next piece where its first byte leaves one kind, or none; and after a slash.
-use Rattle.std.proofs.Common.{◌≡◌, ℕ, zero, suc, ◌+◌, ◌<◌, ◌≤◌, ◌⊎◌, inl, inr, Bool, true, false, cond, List, [], ◌∷◌, ◌++◌, length, Result, Ok, Err, Option, Some, None, refl, sym, ap, subst, ◌∙◌, arith}
+use Rattle.std.proofs.Common.{◌≡◌, ℕ, suc, ◌+◌, ◌⊎◌, inl, inr, Bool, true, false, cond, List, [], ◌∷◌, ◌++◌, length, Ok, Err, Option, Some, None, refl, sym, ap, subst, ◌∙◌, arith}
 use Rattle.std.proofs.lemmas.Bool.{eqb-true, eq-eqb, false≢true}
 use Rattle.std.proofs.Math.Dec.{eqb}
 use Rattle.std.specs.List.{prefix_len}
 use Rattle.dy_base.specs.declared.kind.Kind.{Kind}
-use Rattle.dy_base.specs.declared.kind.Kind.TheVariants.{BadByte, OpenComment, OpenString, BadLiteral}
-use Rattle.dy_tree.specs.declared.token.TokenKind.{TokenKind}
+use Rattle.dy_base.specs.declared.kind.Kind.TheVariants.{BadByte, OpenComment, OpenString}
 use Rattle.dy_tree.specs.declared.token.TokenKind.TheVariants as kinds
 use Rattle.dy_lexer.specs.declared.class.Piece.{Piece}
 use Rattle.dy_lexer.specs.declared.class.Piece.TheVariants.{Token, Comment, Blank}
-use Rattle.dy_lexer.specs.declared.class.Class.{Class}
-use Rattle.dy_lexer.specs.declared.class.Class.TheVariants.{Letter, Digit, Graphic, Joint, Sign, Slash, Hash, Question, Backslash, SingleQuote, DoubleQuote, Space, Other}
+use Rattle.dy_lexer.specs.declared.class.Class.TheVariants.{Digit, Slash, Hash, SingleQuote, DoubleQuote, Space, Other}
 use Rattle.dy_lexer.specs.Bytes.{class_of, is_digit, is_blank, in_line}
 use Rattle.dy_lexer.specs.Words.{operators, is_listed}
 use Rattle.dy_lexer.specs.Scan.{literal_step, literal_end, comment_step, comment_end}
 use Rattle.dy_lexer.specs.Pieces.{closed, slash_at}
-use Rattle.dy_lexer.specs.Forms.{IsForm, IsBroken, Each}
+use Rattle.dy_lexer.specs.Forms.{IsForm, IsBroken}
 use Rattle.dy_lexer.proofs.Runs.{run_splits, run_longest, same_value, not_none, stable, splits}
 use Rattle.dy_lexer.proofs.Lists.{listed_passes}
-use Rattle.dy_lexer.proofs.Heads.{byte_of, starts, head_is, Within, within_le, Best, Answers, most_of, none_of, stuck_at, not_broken}
+use Rattle.dy_lexer.proofs.Heads.{byte_of, starts, Within, within_le, Answers, most_of, stuck_at, not_broken}
 
 pub heads : (x y : ℕ) (xs ys : List ℕ) → x ∷ xs ≡ y ∷ ys → x ≡ y
 heads x y xs ys e = cc

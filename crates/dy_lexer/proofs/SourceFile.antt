@@ -1,12 +1,12 @@
 -- What is read of a source file.
-use Rattle.std.proofs.Common.{◌≡◌, ℕ, ◌≤◌, ◌⊎◌, inl, inr, true, false, List, [], ◌∷◌, length, Result, Ok, Err, Option, Some, None, refl, sym, ap, subst, ◌∙◌, arith}
+use Rattle.std.proofs.Common.{◌≡◌, ℕ, ◌⊎◌, inl, inr, false, List, [], length, Result, Ok, Err, refl, sym, ap, subst, ◌∙◌, arith}
 use Rattle.dy_base.specs.declared.fault.Fault.{Fault}
 use Rattle.dy_base.specs.declared.fault.Refusal.{Refusal}
 use Rattle.dy_base.specs.declared.fault.Refusal.TheVariants as refusals
 use Rattle.dy_tree.specs.declared.token.Token.{Token}
 use Rattle.dy_lexer.specs.declared.source.Source.{Source}
 use Rattle.dy_lexer.specs.Tokens.{Tokens, Gives, tokens_of, joined, joined_after}
-use Rattle.dy_lexer.specs.Cut.{Cut, Broken, Judged}
+use Rattle.dy_lexer.specs.Cut.{Judged}
 use Rattle.dy_lexer.specs.Headers.{Opened, opened}
 use Rattle.dy_lexer.specs.Sources.{wanted, header_of, header_fault, source, with_module, source_after, source_of, IsSource, IsAfter, IsFirst, IsReading, Reads, Refuses}
 use Rattle.dy_lexer.specs.declared.header.Head.{Head}

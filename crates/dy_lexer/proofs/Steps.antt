@@ -1,13 +1,11 @@
 -- One step of each reading loop.
-use Rattle.std.proofs.Common.{◌≡◌, ℕ, zero, suc, ◌+◌, ◌<◌, ◌≤◌, List, [], ◌∷◌, ◌++◌, length, get_or, drop, false, Option, Some, None, refl, sym, ap, ◌∙◌, arith, add-one, drop-cons}
-use Rattle.std.specs.List.{prefix_len}
+use Rattle.std.proofs.Common.{◌≡◌, ℕ, ◌+◌, ◌<◌, ◌≤◌, List, [], ◌∷◌, length, get_or, drop, false, Option, Some, None, refl, ap, arith, add-one, drop-cons}
 use Rattle.std.proofs.lemmas.List.{drop_all}
-use Rattle.dy_lexer.specs.declared.class.Class.{Class}
 use Rattle.dy_lexer.specs.declared.class.Class.TheVariants.{Graphic}
-use Rattle.dy_lexer.specs.Bytes.{class_of, in_name}
+use Rattle.dy_lexer.specs.Bytes.{class_of}
 use Rattle.dy_lexer.specs.Words.{begins}
 use Rattle.dy_lexer.specs.Scan.{plus}
-use Rattle.dy_lexer.specs.Pieces.{name_from, name_len}
+use Rattle.dy_lexer.specs.Pieces.{name_len}
 
 pub plus_plus : (i : ℕ) (r : Option ℕ) → plus i (plus 1 r) ≡ plus (i + 1) r
 plus_plus i None = refl

@@ -1,22 +1,21 @@
 -- The next piece after a question mark.
-use Rattle.std.proofs.Common.{◌≡◌, ℕ, zero, suc, ◌+◌, ◌<◌, ◌≤◌, ◌⊎◌, inl, inr, Bool, true, false, cond, List, [], ◌∷◌, ◌++◌, length, take, drop, Result, Ok, Err, Option, Some, None, refl, sym, ap, subst, ◌∙◌, append_assoc, arith}
+use Rattle.std.proofs.Common.{◌≡◌, ℕ, suc, ◌+◌, ◌≤◌, ◌⊎◌, inl, inr, Bool, true, false, cond, List, [], ◌∷◌, ◌++◌, length, drop, Ok, Err, Option, Some, None, refl, sym, ap, subst, ◌∙◌, append_assoc, arith}
 use Rattle.std.proofs.lemmas.List.{drop_at, length-append}
 use Rattle.std.proofs.lemmas.Bool.{eqb-true, eq-eqb, false≢true}
 use Rattle.std.proofs.Math.Dec.{eqb}
 use Rattle.std.specs.List.{prefix_len}
-use Rattle.dy_base.specs.Folding.{folded}
 use Rattle.dy_base.specs.declared.kind.Kind.TheVariants.{BadLiteral}
 use Rattle.dy_tree.specs.declared.token.TokenKind.TheVariants as kinds
 use Rattle.dy_lexer.specs.declared.class.Piece.{Piece}
 use Rattle.dy_lexer.specs.declared.class.Piece.TheVariants.{Token}
 use Rattle.dy_lexer.specs.declared.class.Class.TheVariants.{Question}
 use Rattle.dy_lexer.specs.Bytes.{class_of, in_name}
-use Rattle.dy_lexer.specs.Words.{constraints, is_listed, front_in}
-use Rattle.dy_lexer.specs.Pieces.{Found, name_len, call_site, constraint_found, constraint_len, variable_at, unnamed_variable, question_at}
+use Rattle.dy_lexer.specs.Words.{constraints, front_in}
+use Rattle.dy_lexer.specs.Pieces.{name_len, call_site, constraint_found, constraint_len, variable_at, unnamed_variable, question_at}
 use Rattle.dy_lexer.specs.Forms.{IsForm, IsName, IsConstraint}
-use Rattle.dy_lexer.proofs.Runs.{some_same, same_value, not_none, name_of, name_splits}
+use Rattle.dy_lexer.proofs.Runs.{same_value, not_none, name_of, name_splits}
 use Rattle.dy_lexer.proofs.Lists.{front_found, front_splits}
-use Rattle.dy_lexer.proofs.Heads.{byte_of, starts, Within, within_le, Best, Answers, most_of, stuck_at, not_broken}
+use Rattle.dy_lexer.proofs.Heads.{byte_of, starts, Within, within_le, Answers, most_of, stuck_at, not_broken}
 use Rattle.dy_lexer.proofs.Simple.{heads}
 
 -- what can stand after the question mark

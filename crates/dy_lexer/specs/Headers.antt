@@ -1,5 +1,5 @@
--- Headers of source files and of LID files (DRM, appendix "Dylan interchange format"; own in the parts that are marked so).
-use Rattle.std.specs.Prelude.{◌≡◌, ℕ, zero, suc, ◌+◌, ◌-◌, ◌<◌, ◌⊎◌, Bool, true, false, ◌&&◌, ◌||◌, ◌==◌, nat_le, nat_lt, if◌then◌else◌, List, [], ◌∷◌, ◌++◌, take, drop, length, codes, Result, Ok, Err, Option, Some, None}
+-- Headers of source files and of LID files (DRM 2, "Dylan interchange format"; own in the parts that are marked so).
+use Rattle.std.specs.Prelude.{◌≡◌, ℕ, zero, suc, ◌+◌, ◌-◌, ◌<◌, ◌⊎◌, Bool, true, false, ◌&&◌, ◌||◌, ◌==◌, nat_le, nat_lt, if◌then◌else◌, List, [], ◌∷◌, ◌++◌, take, drop, length, codes, Option, Some, None}
 use Rattle.std.specs.List.{prefix_len}
 use Rattle.dy_base.specs.Folding.{folded}
 use Rattle.dy_lexer.specs.declared.header.Key.{Key}

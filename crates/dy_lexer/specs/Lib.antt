@@ -1,6 +1,7 @@
 pub mod Bytes
 pub mod Words
 pub mod Scan
+pub mod Characters
 pub mod Literals
 pub mod Pieces
 pub mod Tokens

@@ -1,5 +1,5 @@
 -- Literals and comments, which have an end: automata over bytes.
-use Rattle.std.specs.Prelude.{◌≡◌, ℕ, ◌+◌, ◌-◌, ◌*◌, ◌≤◌, Bool, true, false, ◌&&◌, ◌||◌, ◌==◌, nat_lt, if◌then◌else◌, List, [], ◌∷◌, Option, Some, None, option_map}
+use Rattle.std.specs.Prelude.{ℕ, ◌+◌, ◌-◌, ◌*◌, ◌≤◌, Bool, true, false, ◌&&◌, ◌||◌, ◌==◌, nat_lt, if◌then◌else◌, List, [], ◌∷◌, Option, Some, None}
 use Rattle.dy_lexer.specs.Bytes.{digit_of}
 use Rattle.dy_lexer.specs.declared.spelling.Spelling.{Spelling}
 use Rattle.dy_lexer.specs.declared.spelling.Spelling.TheVariants.{Plain, Escape, Open, Digit, Digits}

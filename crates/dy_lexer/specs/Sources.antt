@@ -1,5 +1,5 @@
 -- What a source file and a LID file say.
-use Rattle.std.specs.Prelude.{◌≡◌, ℕ, ◌⊎◌, Bool, true, false, List, [], ◌∷◌, length, Result, Ok, Err, Option, Some, None}
+use Rattle.std.specs.Prelude.{◌≡◌, ℕ, ◌⊎◌, Bool, true, false, List, [], length, Result, Ok, Err, Option, Some, None}
 use Rattle.dy_base.specs.Folding.{folded}
 use Rattle.dy_base.specs.declared.kind.Kind.TheVariants.{BadHeader}
 use Rattle.dy_base.specs.declared.fault.Fault.{Fault}

@@ -1,5 +1,5 @@
 -- The tokens of pieces, and of a text.
-use Rattle.std.specs.Prelude.{◌≡◌, ℕ, ℤ, pos, zero, suc, ◌+◌, ◌-◌, ◌*◌, Bool, true, false, ◌&&◌, ◌||◌, ◌==◌, nat_lt, if◌then◌else◌, List, [], ◌∷◌, ◌++◌, take, drop, length, Result, Ok, Err, Option, Some, None}
+use Rattle.std.specs.Prelude.{◌≡◌, ℕ, ℤ, pos, zero, suc, ◌+◌, ◌-◌, ◌*◌, Bool, true, false, ◌&&◌, ◌==◌, nat_lt, if◌then◌else◌, List, [], ◌∷◌, ◌++◌, take, drop, length, Result, Ok, Err, Option, Some, None}
 use Rattle.dy_base.specs.Folding.{folded}
 use Rattle.dy_base.specs.declared.kind.Kind.{Kind}
 use Rattle.dy_base.specs.declared.kind.Kind.TheVariants.{BadLiteral, WideInteger}

@@ -1,4 +1,4 @@
--- The fixed spellings: operators, punctuation, marks and constraints (DRM 2 and appendices A and B).
+-- The fixed spellings: operators, punctuation, marks and constraints (DRM 2, "Lexical syntax", and appendix A).
 use Rattle.std.specs.Prelude.{ℕ, Bool, true, false, ◌&&◌, ◌||◌, ◌==◌, if◌then◌else◌, List, [], ◌∷◌, length, codes, Option, Some, None}
 use Rattle.dy_base.specs.Folding.{folded_byte}
 use Rattle.dy_tree.specs.declared.token.TokenKind.{TokenKind}

@@ -1,10 +1,12 @@
 //! Laws of the tokens of texts.
 
-ghost use Rattle.std.specs.Prelude.{◌≡◌, ℕ, ◌≤◌, ◌++◌, List, length, Ok, Err};
+ghost use Rattle.std.specs.Prelude.{◌≡◌, ◌↔◌, ℕ, ◌≤◌, ◌++◌, Bool, List, length, Ok, Err, Some};
 ghost use Rattle.dy_base.specs.declared.fault.Fault.{Fault};
 ghost use Rattle.dy_tree.specs.declared.token.Token.{Token};
 ghost use Rattle.dy_lexer.specs.declared.class.Piece.{Piece};
 ghost use Rattle.dy_lexer.specs.Pieces.{piece_at};
+ghost use Rattle.dy_lexer.specs.Scan.{decoded};
+ghost use Rattle.dy_lexer.specs.Characters.{Characters};
 ghost use Rattle.dy_lexer.specs.Forms.{Begins};
 ghost use Rattle.dy_lexer.specs.Tokens.{tokens_of};
 ghost use Rattle.dy_lexer.specs.Cut.{Cut, Broken, Judged};
@@ -25,4 +27,6 @@ pub fn token_laws()
     ensures apart { (file at : ℕ) (text : List ℕ) (ts : List Token) (f : Fault) → Cut file at text ts → Broken file at text f → ⊥ }
     // The next piece of a text is one, of one kind.
     ensures next { (kind : Piece) (piece rest : List ℕ) → Begins kind piece rest → piece_at (piece ++ rest) ≡ Ok (kind, length piece) }
+    // What the characters of a literal stand for is read as they are spelled.
+    ensures characters { (tabs : Bool) (text values : List ℕ) → (decoded tabs text ≡ Some values) ↔ Characters tabs text values }
 {}

@@ -251,7 +251,7 @@ static SIGNS: [(&[u8], &str); 17] = [
     ),
     (
         b":: => ... #(#[",
-        "Punctuation :: @0; Punctuation => @3; Punctuation ... @6; Punctuation #(@10; Punctuation #[ @13; ",
+        "Punctuation :: @0; Punctuation => @3; Punctuation ... @6; Punctuation #( @10; Punctuation #[ @12; ",
     ),
     (b"===>", "Operator == @0; Punctuation => @2; "),
     (b"....", "Punctuation ... @0; Punctuation . @3; "),

@@ -1,4 +1,4 @@
-//! Macros as data (DRM, appendix B).
+//! Macros as data (DRM 10, "Macros").
 
 use crate::fragment::Fragment;
 use dy_base::{Items, Name};

@@ -1,5 +1,5 @@
-use Rattle.std.proofs.Common.{◌≡◌, ℕ, ◌+◌, ◌<◌, List, drop, length, false, refl, sym, ap, ◌∙◌, arith}
-use Rattle.dy_lexer.specs.Headers.{opened, is_empty_line}
+use Rattle.std.proofs.Common.{◌+◌, ◌<◌, drop, length, refl, sym, ap, ◌∙◌, arith}
+use Rattle.dy_lexer.specs.Headers.{opened}
 use Rattle.dy_lexer.proofs.Opening.{header_end, header_ends, header_goes, further}
 use Rattle.dy_lexer.proofs.header.header.Goals as goal
 

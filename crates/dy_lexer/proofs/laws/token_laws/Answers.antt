@@ -1,6 +1,7 @@
 use Rattle.dy_lexer.proofs.Munch.{exact}
 use Rattle.dy_lexer.proofs.Whole.{judged, complete, complete_fault, unique, unique_fault, exclusive}
+use Rattle.dy_lexer.proofs.Spellings.{characters_law}
 use Rattle.dy_lexer.proofs.laws.token_laws.Goals as goal
 
 pub returns : goal.returns
-returns c = record { judged = judged; cut = complete; broken = complete_fault; one = unique; one_fault = unique_fault; apart = exclusive; next = exact }
+returns c = record { judged = judged; cut = complete; broken = complete_fault; one = unique; one_fault = unique_fault; apart = exclusive; next = exact; characters = characters_law }

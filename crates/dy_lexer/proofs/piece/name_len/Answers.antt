@@ -1,4 +1,4 @@
-use Rattle.std.proofs.Common.{sym, ◌∙◌, arith}
+use Rattle.std.proofs.Common.{◌∙◌, arith}
 use Rattle.dy_lexer.proofs.Steps.{name_len-graphic}
 use Rattle.dy_lexer.proofs.piece.name_len.Goals as goal
 

@@ -1,4 +1,4 @@
-use Rattle.std.proofs.Common.{◌≡◌, true, false, List, [], ◌∷◌, ◌++◌, sym, ap, ◌∙◌}
+use Rattle.std.proofs.Common.{◌≡◌, true, false, [], ◌∷◌, ◌++◌, sym, ◌∙◌}
 use Rattle.dy_lexer.specs.Tokens.{is_string}
 use Rattle.dy_lexer.proofs.Joining.{add_second, add_joined, done_same}
 use Rattle.dy_lexer.proofs.token.add_after.Goals as goal
