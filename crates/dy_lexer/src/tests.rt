@@ -1,4 +1,4 @@
-//! Tokens and headers by examples. Expected values come from the rules of docs/LANGUAGE-tokens.md.
+//! Tokens and headers by examples. Expected values come from the rules of docs/LANGUAGE.md.
 
 use crate::{lex, read_lid};
 use dy_base::{Fault, Refusal};
