@@ -81,66 +81,67 @@ fn sum_of_ones(rt: &(impl AllocGlobal + Abort), count: usize) -> Result<Vec<u8>,
     Ok(text)
 }
 
+static PRINTED: [(&[u8], u8, &[u8], &[u8]); 9] = [
+    (b"format-out(\"%d\\n\", 6 * 7);\n", 0, b"42\n", b""),
+    (b"", 0, b"", b""),
+    (b"\n  \r\n", 0, b"", b""),
+    (
+        b"format-out(\"%d\\n\", 9223372036854775807 + 1);\n",
+        1,
+        b"",
+        b"unhandled <simple-error>: integer overflow\n",
+    ),
+    (
+        b"format-out(\"%d\\n\", 2 - 3 - 4);format-out(\"%d\\n\",2 * (3 + 4))",
+        0,
+        b"-5\n14\n",
+        b"",
+    ),
+    (b"format-out(\"%d\\n\", 2 + 3 * 4 - 1)", 0, b"13\n", b""),
+    (
+        b"format-out(\"%d\\n\", 0 - 9223372036854775807 - 1)",
+        0,
+        b"-9223372036854775808\n",
+        b"",
+    ),
+    (
+        b"format-out(\"%d\\n\", 1); format-out(\"%d\\n\", 4294967296 * 4294967296); format-out(\"%d\\n\", 3)",
+        1,
+        b"1\n",
+        b"unhandled <simple-error>: integer overflow\n",
+    ),
+    (b"format-out ( \"%d\\n\" , 007 )", 0, b"7\n", b""),
+];
+
 #[test]
 fn prints(rt: HostRuntime) -> Result<(), Fail> {
-    let overflow = b"unhandled <simple-error>: integer overflow\n";
-    let table: [(&[u8], u8, &[u8], &[u8]); 9] = [
-        (b"format-out(\"%d\\n\", 6 * 7);\n", 0, b"42\n", b""),
-        (b"", 0, b"", b""),
-        (b"\n  \r\n", 0, b"", b""),
-        (
-            b"format-out(\"%d\\n\", 9223372036854775807 + 1);\n",
-            1,
-            b"",
-            overflow,
-        ),
-        (
-            b"format-out(\"%d\\n\", 2 - 3 - 4);format-out(\"%d\\n\",2 * (3 + 4))",
-            0,
-            b"-5\n14\n",
-            b"",
-        ),
-        (b"format-out(\"%d\\n\", 2 + 3 * 4 - 1)", 0, b"13\n", b""),
-        (
-            b"format-out(\"%d\\n\", 0 - 9223372036854775807 - 1)",
-            0,
-            b"-9223372036854775808\n",
-            b"",
-        ),
-        (
-            b"format-out(\"%d\\n\", 1); format-out(\"%d\\n\", 4294967296 * 4294967296); format-out(\"%d\\n\", 3)",
-            1,
-            b"1\n",
-            overflow,
-        ),
-        (b"format-out ( \"%d\\n\" , 007 )", 0, b"7\n", b""),
-    ];
-    for (text, status, out, err) in table {
+    for &(text, status, out, err) in &PRINTED {
         check(&rt, text, status, out, err)?;
     }
     Ok(())
 }
 
+static REFUSED: [&[u8]; 14] = [
+    b"format-out(\"%d\\n\", 9223372036854775808)",
+    b"format-out(\"%d\\n\", 1) format-out(\"%d\\n\", 2)",
+    b"format-out(\"%d\\n\", 1);;",
+    b";",
+    b"format-out(\"%d\", 1)",
+    b"format-out(\"%d\\n\", 1 +)",
+    b"format-out(\"%d\\n\", (1)",
+    b"format-out(\"%d\\n\", 1))",
+    b"format-out(\"%d\\n\", 1, 2)",
+    b"format-out(\"%d\\n\", k)",
+    b"format-outs(\"%d\\n\", 1)",
+    b"\tformat-out(\"%d\\n\", 1)",
+    b"// nothing\n",
+    b"format-out(\"%d\\n\", \xff)",
+];
+
 #[test]
 fn refuses_other_texts(rt: HostRuntime) -> Result<(), Fail> {
     let line = b"refused hello: 17 Syntax at hello.dylan:1:1\n";
-    let table: [&[u8]; 14] = [
-        b"format-out(\"%d\\n\", 9223372036854775808)",
-        b"format-out(\"%d\\n\", 1) format-out(\"%d\\n\", 2)",
-        b"format-out(\"%d\\n\", 1);;",
-        b";",
-        b"format-out(\"%d\", 1)",
-        b"format-out(\"%d\\n\", 1 +)",
-        b"format-out(\"%d\\n\", (1)",
-        b"format-out(\"%d\\n\", 1))",
-        b"format-out(\"%d\\n\", 1, 2)",
-        b"format-out(\"%d\\n\", k)",
-        b"format-outs(\"%d\\n\", 1)",
-        b"\tformat-out(\"%d\\n\", 1)",
-        b"// nothing\n",
-        b"format-out(\"%d\\n\", \xff)",
-    ];
-    for text in table {
+    for text in &REFUSED {
         check(&rt, text, 2, b"", line)?;
     }
     Ok(())
@@ -170,20 +171,21 @@ fn check_words(
     Ok(())
 }
 
+static OTHER_WORDS: [&[&str]; 8] = [
+    &[],
+    &["build"],
+    &["build", "hello.lid", "hello.lid"],
+    &["build", "--fuel"],
+    &["build", "--help"],
+    &["check", "hello.lid"],
+    &["--version"],
+    &["Build", "hello.lid"],
+];
+
 #[test]
 fn takes_the_words_of_a_build_alone(rt: HostRuntime) -> Result<(), Fail> {
     let usage = b"usage: banthruy build LID\n";
-    let table: [&[&str]; 8] = [
-        &[],
-        &["build"],
-        &["build", "hello.lid", "hello.lid"],
-        &["build", "--fuel"],
-        &["build", "--help"],
-        &["check", "hello.lid"],
-        &["--version"],
-        &["Build", "hello.lid"],
-    ];
-    for words in table {
+    for words in &OTHER_WORDS {
         let mut files = hello(&rt, b"")?;
         check_words(&rt, words, &mut files, 3, usage)?;
     }
@@ -194,57 +196,58 @@ fn takes_the_words_of_a_build_alone(rt: HostRuntime) -> Result<(), Fail> {
 const LIBRARY_B: &[u8] =
     b"module: dylan-user\n\ndefine library b use dylan; use io; end;\ndefine module b use dylan; use format-out; end;";
 
+/// A file, what it holds, and what building `a/b.lid` then says, where each row keeps the files above it.
+static CHANGES: [(&str, &[u8], u8, &[u8]); 9] = [
+    ("other", b"", 2, b"refused a/b.lid: 35 NoFile\n"),
+    (
+        "a/b.lid",
+        b"library: b\nfiles: one two\n",
+        2,
+        b"refused a/b.lid: 17 Syntax at a/b.lid:1:1\n",
+    ),
+    (
+        "a/b.lid",
+        b"library: method\nfiles: one\n two\n",
+        2,
+        b"refused a/b.lid: 17 Syntax at a/b.lid:1:1\n",
+    ),
+    (
+        "a/b.lid",
+        b"library: b\r\nfiles: one.dylan\r\n two\r\n",
+        2,
+        b"refused b: 35 NoFile: a/one.dylan\n",
+    ),
+    (
+        "a/one.dylan",
+        b"module: dylan-user\n",
+        2,
+        b"refused b: 35 NoFile: a/two.dylan\n",
+    ),
+    (
+        "a/two.dylan",
+        b"module: other\n\n",
+        2,
+        b"refused b: 17 Syntax at a/one.dylan:1:1\n",
+    ),
+    (
+        "a/one.dylan",
+        LIBRARY_B,
+        2,
+        b"refused b: 17 Syntax at a/two.dylan:1:1\n",
+    ),
+    ("a/two.dylan", b"module: b\n", 0, b""),
+    (
+        "a/two.dylan",
+        b"module: b\r\n\r\nformat-out(\"%d\\n\",\r\n 1)\r\n",
+        0,
+        b"",
+    ),
+];
+
 #[test]
 fn tells_files_that_are_absent_or_out_of_form(rt: HostRuntime) -> Result<(), Fail> {
-    // A file, what it holds, and what building `a/b.lid` then says, where each row keeps the files above it.
-    let table: [(&str, &[u8], u8, &[u8]); 9] = [
-        ("other", b"", 2, b"refused a/b.lid: 35 NoFile\n"),
-        (
-            "a/b.lid",
-            b"library: b\nfiles: one two\n",
-            2,
-            b"refused a/b.lid: 17 Syntax at a/b.lid:1:1\n",
-        ),
-        (
-            "a/b.lid",
-            b"library: method\nfiles: one\n two\n",
-            2,
-            b"refused a/b.lid: 17 Syntax at a/b.lid:1:1\n",
-        ),
-        (
-            "a/b.lid",
-            b"library: b\r\nfiles: one.dylan\r\n two\r\n",
-            2,
-            b"refused b: 35 NoFile: a/one.dylan\n",
-        ),
-        (
-            "a/one.dylan",
-            b"module: dylan-user\n",
-            2,
-            b"refused b: 35 NoFile: a/two.dylan\n",
-        ),
-        (
-            "a/two.dylan",
-            b"module: other\n\n",
-            2,
-            b"refused b: 17 Syntax at a/one.dylan:1:1\n",
-        ),
-        (
-            "a/one.dylan",
-            LIBRARY_B,
-            2,
-            b"refused b: 17 Syntax at a/two.dylan:1:1\n",
-        ),
-        ("a/two.dylan", b"module: b\n", 0, b""),
-        (
-            "a/two.dylan",
-            b"module: b\r\n\r\nformat-out(\"%d\\n\",\r\n 1)\r\n",
-            0,
-            b"",
-        ),
-    ];
     let mut files = MemFiles::new(rt.alloc());
-    for (name, bytes, status, err) in table {
+    for &(name, bytes, status, err) in &CHANGES {
         files.add(name, bytes)?;
         check_words(&rt, &["build", "a/b.lid"], &mut files, status, err)?;
     }
