@@ -7,9 +7,8 @@ use dy_io::{Files, Found, HostFiles, HostSink, Sink};
 use dy_lexer::lex;
 use itoa::Buffer;
 use std::alloc::Global;
-use std::env;
-use std::io;
 use std::process::ExitCode;
+use std::{env, io};
 
 /// The most bytes that a source file may have.
 const FILE_LIMIT: usize = 4_194_304;
