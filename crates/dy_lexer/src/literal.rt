@@ -1,6 +1,6 @@
 //! What literals stand for.
 
-ghost use Rattle.std.specs.Prelude.{◌≡◌, ◌∷◌, [], ◌+◌, ◌*◌, ◌++◌, ◌≤◌, ◌<◌, ◌^◌, length, drop, IfOk, IfSome, option_map, pos};
+ghost use Rattle.std.specs.Prelude.{◌≡◌, ◌∷◌, [], ◌+◌, ◌*◌, ◌++◌, ◌≤◌, ◌<◌, ◌^◌, length, drop, IfOk, IfSome, option_map, pos, false};
 ghost use Rattle.dy_base.specs.Folding.{folded};
 ghost use Rattle.dy_lexer.specs.Bytes as bytes;
 ghost use Rattle.dy_lexer.specs.Scan.{escape_of, is_plain, decoded, spelling_step, IsSmall, IsSmallRead};
@@ -57,6 +57,35 @@ fn is_plain(tabs: bool, b: u8) -> bool
     }
 }
 
+/// After a backslash.
+fn escape_step(b: u8) -> Read
+    ensures value { result ≡ spelling_step false Spelling.Escape b }
+    ensures small { IsSmallRead result }
+{
+    if b == b'<' {
+        return Read::GoesOn(Spelling::Open);
+    }
+    match escape_of(b) {
+        Some(v) => Read::Value(v),
+        None => Read::Wrong,
+    }
+}
+
+/// After `\<` and a digit with the value `v`.
+fn digit_step(v: u8, b: u8) -> Read
+    requires { v ≤ 15 }
+    ensures value { result ≡ spelling_step false (Spelling.Digit v) b }
+    ensures small { IsSmallRead result }
+{
+    if b == b'>' {
+        return Read::Value(v);
+    }
+    match digit_of(b) {
+        Some(w) => Read::GoesOn(Spelling::Digits(16 * v + w)),
+        None => Read::Wrong,
+    }
+}
+
 fn spelling_step(tabs: bool, state: Spelling, b: u8) -> Read
     requires { IsSmall state }
     ensures value { result ≡ spelling_step tabs state b }
@@ -72,30 +101,12 @@ fn spelling_step(tabs: bool, state: Spelling, b: u8) -> Read
                 Read::Wrong
             }
         }
-        Spelling::Escape => {
-            if b == b'<' {
-                Read::GoesOn(Spelling::Open)
-            } else {
-                match escape_of(b) {
-                    Some(v) => Read::Value(v),
-                    None => Read::Wrong,
-                }
-            }
-        }
+        Spelling::Escape => escape_step(b),
         Spelling::Open => match digit_of(b) {
             Some(v) => Read::GoesOn(Spelling::Digit(v)),
             None => Read::Wrong,
         },
-        Spelling::Digit(v) => {
-            if b == b'>' {
-                Read::Value(v)
-            } else {
-                match digit_of(b) {
-                    Some(w) => Read::GoesOn(Spelling::Digits(16 * v + w)),
-                    None => Read::Wrong,
-                }
-            }
-        }
+        Spelling::Digit(v) => digit_step(v, b),
         Spelling::Digits(v) => {
             if b == b'>' {
                 Read::Value(v)
