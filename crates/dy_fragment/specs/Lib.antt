@@ -1,0 +1,5 @@
+pub mod Signs
+pub mod Words
+pub mod Fronts
+pub mod Closings
+pub mod Steps
