@@ -84,6 +84,7 @@ close words tokens (closings.Word word opening) (closers.Bracket bracket) t afte
 close words tokens (closings.Word word opening) closers.End t after context =
     closed_word words opening (past_end tokens word opening after) (slice_get tokens (past_end tokens word opening after))
 
-abbrev pub IsWithin : ℕ → Closed → Type 0
-IsWithin n (At at context) = at ≤ n
-IsWithin n (Wrong place) = Unit {0}
+-- grouping goes on between two places
+abbrev pub IsWithin : ℕ → ℕ → Closed → Type 0
+IsWithin from to (At at context) = (from ≤ at) × (at ≤ to)
+IsWithin from to (Wrong place) = Unit {0}

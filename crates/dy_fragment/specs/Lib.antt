@@ -3,3 +3,4 @@ pub mod Words
 pub mod Fronts
 pub mod Closings
 pub mod Steps
+pub mod Groups

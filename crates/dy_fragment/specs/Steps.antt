@@ -79,14 +79,19 @@ open_step limit s t closing context = Ok (record {
   deep = deeper limit s.deep (length s.open_groups) t.place;
 })
 
-abbrev pub closed_step : SeenState → Token → SeenOpen → List SeenOpen → Closed → Step
-closed_step s t o os (closed.At at context) =
-    Ok (record { at = at; context = context; open_groups = os; row = with_tree s.deep o.before (group o.opener (pack s.row) t); deep = s.deep })
-closed_step s t o os (closed.Wrong place) = Err (earlier s.deep place)
+abbrev pub closed_step : Option Place → List SeenFragment → Token → SeenOpen → List SeenOpen → Closed → Step
+closed_step deep row t o os (closed.At at context) =
+    Ok (record { at = at; context = context; open_groups = os; row = with_tree deep o.before (group o.opener (pack row) t); deep = deep })
+closed_step deep row t o os (closed.Wrong place) = Err (earlier deep place)
+
+-- grouping goes on at this place
+abbrev pub IsAt : ℕ → Closed → Type 0
+IsAt at (closed.At to context) = at ≡ to
+IsAt at (closed.Wrong place) = ⊥
 
 abbrev pub close_step : Words → List Token → SeenState → Token → Closer → List SeenOpen → Step
 close_step words tokens s t closer [] = Err (earlier s.deep t.place)
-close_step words tokens s t closer (o ∷ os) = closed_step s t o os (close words tokens o.closing closer t (s.at + 1) s.context)
+close_step words tokens s t closer (o ∷ os) = closed_step s.deep s.row t o os (close words tokens o.closing closer t (s.at + 1) s.context)
 
 abbrev pub step_by : ℕ → Words → List Token → SeenState → Token → Front → Step
 step_by limit words tokens s t (Leaf context) = leaf_step s t context

@@ -62,6 +62,7 @@ fn is_same_name(name: &Token, token: &Token) -> bool
 /// The place after the opener's word, if that stands here.
 fn past_word(tokens: &[Token], word: usize, at: usize) -> usize
     ensures value { result ≡ spec.past_word tokens.now word at }
+    ensures ahead { at ≤ result }
     ensures within { at ≤ length tokens.now → result ≤ length tokens.now }
 {
     match tokens.get(word) {
@@ -82,6 +83,7 @@ fn past_word(tokens: &[Token], word: usize, at: usize) -> usize
 /// The place after the defined name, if that stands here. It is the one directly after the word.
 fn past_name(tokens: &[Token], word: usize, at: usize) -> usize
     ensures value { result ≡ spec.past_name tokens.now word at }
+    ensures ahead { at ≤ result }
     ensures within { at ≤ length tokens.now → result ≤ length tokens.now }
 {
     if tokens.len() <= word {
@@ -105,6 +107,7 @@ fn past_name(tokens: &[Token], word: usize, at: usize) -> usize
 /// The place after the words that may follow an `end`.
 fn past_end(tokens: &[Token], word: usize, opening: Opening, at: usize) -> usize
     ensures value { result ≡ spec.past_end tokens.now word opening at }
+    ensures ahead { at ≤ result }
     ensures within { at ≤ length tokens.now → result ≤ length tokens.now }
 {
     let after = past_word(tokens, word, at);
@@ -140,7 +143,7 @@ fn after_word(opening: Opening) -> Context
 fn closed_word(words: &Words, tokens: &[Token], opening: Opening, at: usize) -> Closed
     requires { at ≤ length tokens.now }
     ensures value { result ≡ spec.closed_word words.now opening at (slice_get tokens.now at) }
-    ensures within { spec.IsWithin (length tokens.now) result }
+    ensures within { spec.IsWithin at (length tokens.now) result }
 {
     match tokens.get(at) {
         None => Closed::At(at, after_word(opening)),
@@ -181,7 +184,7 @@ pub(crate) fn close(
 ) -> Closed
     requires { after ≤ length tokens.now }
     ensures value { result ≡ spec.close words.now tokens.now closing closer token.now after context }
-    ensures within { spec.IsWithin (length tokens.now) result }
+    ensures within { spec.IsWithin after (length tokens.now) result }
 {
     match closing {
         Closing::Bracket(opener, outside) => match closer {
@@ -196,7 +199,10 @@ pub(crate) fn close(
         },
         Closing::Word(word, opening) => match closer {
             Closer::Bracket(_) => Closed::Wrong(token.place),
-            Closer::End => closed_word(words, tokens, opening, past_end(tokens, word, opening, after)),
+            Closer::End => {
+                let past = past_end(tokens, word, opening, after);
+                closed_word(words, tokens, opening, past)
+            }
         },
     }
 }

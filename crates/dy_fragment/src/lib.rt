@@ -3,10 +3,12 @@
 
 mod closing;
 mod front;
+mod laws;
 mod sign;
 mod steps;
 mod word;
 
 pub use closing::Closing;
 pub use front::{Closer, Context, Local, Mode};
+pub use laws::group_laws;
 pub use sign::Bracket;
