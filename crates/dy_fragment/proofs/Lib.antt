@@ -1,6 +1,7 @@
 pub mod Loops
 pub mod Stack
 pub mod Ahead
+pub mod Turns
 pub mod Reading
 pub mod Sound
 pub mod Verdicts

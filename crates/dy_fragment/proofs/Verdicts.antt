@@ -12,10 +12,7 @@ use Rattle.dy_fragment.specs.Steps.{SeenState, Grouping, fault_at, complete_row,
 use Rattle.dy_fragment.specs.Groups.{Groups, Grouped, depth}
 use Rattle.dy_fragment.proofs.Reading.{state_at, Reads, reads}
 use Rattle.dy_fragment.proofs.Sound.{sound}
-
-run_end : (limit : ℕ) (words : Words) (tokens : List Token) (n : ℕ) (s : SeenState) → slice_get tokens s.at ≡ None → run limit words tokens n s ≡ finish s
-run_end limit words tokens zero s ends = refl
-run_end limit words tokens (suc n) s ends = rw ends refl
+use Rattle.dy_fragment.proofs.Turns.{run_end}
 
 -- what stands at the end of the tokens where there are trees of them
 record Ending (limit : ℕ) (words : Words) (tokens : List Token) (fs : List SeenFragment) : Type 0 where

@@ -3,6 +3,7 @@
 
 mod closing;
 mod front;
+mod grouping;
 mod laws;
 mod sign;
 mod steps;
@@ -10,5 +11,6 @@ mod word;
 
 pub use closing::Closing;
 pub use front::{Closer, Context, Local, Mode};
+pub use grouping::group;
 pub use laws::group_laws;
 pub use sign::Bracket;
