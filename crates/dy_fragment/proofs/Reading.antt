@@ -52,7 +52,11 @@ module _ (limit : ℕ) (words : Words) (tokens : List Token) where
 
   reads_nothing : (at : ℕ) (c : Context) → ReadsAll at c at c []
   reads_nothing at c n os row deep enough = record {
-    left = n; new_row = row; new_deep = deep; enough = enough; goes = refl;
+    left = n;
+    new_row = row;
+    new_deep = deep;
+    enough = enough;
+    goes = refl;
     same = λ _. sym (append-nil row);
     kept = λ e. e;
     within = λ e _. e;
@@ -78,7 +82,10 @@ module _ (limit : ℕ) (words : Words) (tokens : List Token) where
   reads_leaf at to c d e t fs found front more (suc m) os row deep enough =
       let rest = more m os (with_tree deep row (one t)) deep (omega arith) in
       record {
-        left = rest.left; new_row = rest.new_row; new_deep = rest.new_deep; enough = rest.enough;
+        left = rest.left;
+        new_row = rest.new_row;
+        new_deep = rest.new_deep;
+        enough = rest.enough;
         goes = leaf_goes m at c d t os row deep found front ∙ rest.goes;
         same = λ h. joined row rest.new_row fs (one t) (one t) (with_tree deep row (one t)) (rest.same h) (with_tree_none deep row (one t) (rest.kept h)) refl;
         kept = rest.kept;
@@ -89,13 +96,13 @@ module _ (limit : ℕ) (words : Words) (tokens : List Token) where
   open_goes : (m at : ℕ) (c d : Context) (t : Token) (k : Closing) (os : List SeenOpen) (row : List SeenFragment) (deep : Option Place)
       → slice_get tokens at ≡ Some t → front_at words tokens t at c ≡ Opens k d
       → run limit words tokens (suc m) (state_at at c os row deep)
-          ≡ run limit words tokens m (state_at (at + 1) d (record { opener = t; closing = k; before = row } ∷ os) [] (deeper limit deep (length os) t.place))
+      ≡ run limit words tokens m (state_at (at + 1) d (record { opener = t; closing = k; before = row } ∷ os) [] (deeper limit deep (length os) t.place))
   open_goes m at c d t k os row deep found front = rw (found, front) refl
 
   close_goes : (m at after : ℕ) (c g : Context) (t : Token) (j : Closer) (o : SeenOpen) (os : List SeenOpen) (row : List SeenFragment) (deep : Option Place)
       → slice_get tokens at ≡ Some t → front_at words tokens t at c ≡ Closes j → close words tokens o.closing j t (at + 1) c ≡ At after g
       → run limit words tokens (suc m) (state_at at c (o ∷ os) row deep)
-          ≡ run limit words tokens m (state_at after g os (with_tree deep o.before (group o.opener (pack row) t)) deep)
+      ≡ run limit words tokens m (state_at after g os (with_tree deep o.before (group o.opener (pack row) t)) deep)
   close_goes m at after c g t j o os row deep found front closes = rw (found, front, closes) refl
 
   one_less : (n at : ℕ) → at < length tokens → length tokens ≤ n + at → (m : ℕ) × (n ≡ suc m)
@@ -119,9 +126,12 @@ module _ (limit : ℕ) (words : Words) (tokens : List Token) where
       let row2 : List SeenFragment = with_tree first.new_deep row tree in
       let rest = more m1 os row2 first.new_deep (omega arith) in
       let is : (new : Option Place) → new ≡ None → first.new_deep ≡ new → tree ≡ group opener (pack inner) closer =
-          λ (new : Option Place) (x : new ≡ None) (y : first.new_deep ≡ new). ap (λ (r : List SeenFragment). group opener (pack r) closer) (first.same (y ∙ x)) in
+      λ (new : Option Place) (x : new ≡ None) (y : first.new_deep ≡ new). ap (λ (r : List SeenFragment). group opener (pack r) closer) (first.same (y ∙ x)) in
       record {
-        left = rest.left; new_row = rest.new_row; new_deep = rest.new_deep; enough = rest.enough;
+        left = rest.left;
+        new_row = rest.new_row;
+        new_deep = rest.new_deep;
+        enough = rest.enough;
         goes = open_goes m at c d opener k os row deep found front ∙ first.goes
             ∙ ap (λ (n : ℕ). run limit words tokens n (state_at end e (o ∷ os) first.new_row first.new_deep)) left
             ∙ close_goes m1 end after e g closer j o os first.new_row first.new_deep met ends closes ∙ rest.goes;

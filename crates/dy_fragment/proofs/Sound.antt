@@ -75,9 +75,20 @@ module _ (limit : ℕ) (words : Words) (tokens : List Token) (out : List SeenFra
   put : (at : ℕ) (c : Context) (at2 : ℕ) (c2 : Context) (f : SeenFragment) → Puts at c at2 c2 f
       → (os : List SeenOpen) (row : List SeenFragment) → Completed os (row ++ f ∷ []) at2 c2 → Completed os row at c
   put at c at2 c2 f puts [] row (fs, to, e, groups, ends, is) = (f ∷ fs, to, e, puts to e fs groups, ends, is ∙ append_assoc row (f ∷ []) fs)
-  put at c at2 c2 f puts (o ∷ os) row (fs, end, e, closer, j, after, g, groups, met, front, is, more) =
-      (f ∷ fs, end, e, closer, j, after, g, puts end e fs groups, met, front, is,
-        subst (λ (r : List SeenFragment). Completed os (o.before ++ group o.opener (pack r) closer ∷ []) after g) (append_assoc row (f ∷ []) fs) more)
+  put at c at2 c2 f puts (o ∷ os) row (fs, end, e, closer, j, after, g, groups, met, front, is, more) = (
+    f ∷ fs,
+    end,
+    e,
+    closer,
+    j,
+    after,
+    g,
+    puts end e fs groups,
+    met,
+    front,
+    is,
+    subst (λ (r : List SeenFragment). Completed os (o.before ++ group o.opener (pack r) closer ∷ []) after g) (append_assoc row (f ∷ []) fs) more,
+  )
 
   abbrev pub Sound : ℕ → Type 0
   Sound n = (at : ℕ) (c : Context) (os : List SeenOpen) (row : List SeenFragment) → length tokens ≤ n + at → run limit words tokens n (state_at at c os row None) ≡ Ok out → Completed os row at c
@@ -98,10 +109,21 @@ module _ (limit : ℕ) (words : Words) (tokens : List Token) (out : List SeenFra
       → ((to : ℕ) (g : Context) → r ≡ closes.At to g → length tokens ≤ n + to)
       → slice_get tokens at ≡ Some t → front_at words tokens t at c ≡ Closes j → close words tokens o.closing j t (at + 1) c ≡ r
       → and_then (closed_step None row t o os r) (λ next. run limit words tokens n next) ≡ Ok out → Completed (o ∷ os) row at c
-  sound_closed n at c t j o os row (closes.At to g) more enough found front is e =
-      ([], at, c, t, j, to, g, nothing at c, found, front, is,
-        subst (λ (r : List SeenFragment). Completed os (o.before ++ group o.opener (pack r) t ∷ []) to g) (sym (append-nil row))
-          (more to g os (o.before ++ group o.opener (pack row) t ∷ []) (enough to g refl) e))
+  sound_closed n at c t j o os row (closes.At to g) more enough found front is e = (
+    [],
+    at,
+    c,
+    t,
+    j,
+    to,
+    g,
+    nothing at c,
+    found,
+    front,
+    is,
+    subst (λ (r : List SeenFragment). Completed os (o.before ++ group o.opener (pack r) t ∷ []) to g) (sym (append-nil row))
+        (more to g os (o.before ++ group o.opener (pack row) t ∷ []) (enough to g refl) e),
+  )
   sound_closed n at c t j o os row (closes.Wrong p) more enough found front is e = absurd cc
 
   sound_close : (n at : ℕ) (c : Context) (t : Token) (j : Closer) (os : List SeenOpen) (row : List SeenFragment) → Sound n
@@ -129,9 +151,9 @@ module _ (limit : ℕ) (words : Words) (tokens : List Token) (out : List SeenFra
   sound_found n at c os row None more enough found e = sound_finish at c os row found e
   sound_found n at c os row (Some t) more enough found e =
       sound_by n at c t os row (front_at words tokens t at c) more (omega arith)
-        (λ (j : Closer) (o : SeenOpen) (to : ℕ) (g : Context) (is : close words tokens o.closing j t (at + 1) c ≡ closes.At to g).
-            let ahead = close_ahead words tokens o.closing j t (at + 1) c to g is in omega arith)
-        found refl e
+      (λ (j : Closer) (o : SeenOpen) (to : ℕ) (g : Context) (is : close words tokens o.closing j t (at + 1) c ≡ closes.At to g).
+      let ahead = close_ahead words tokens o.closing j t (at + 1) c to g is in omega arith)
+      found refl e
 
   pub sound : (n : ℕ) → Sound n
   sound zero at c os row enough e = sound_finish at c os row (slice_get_past tokens at (omega arith)) e

@@ -56,7 +56,9 @@ fn may_be_defined(token: &Token) -> bool
 fn is_same_name(name: &Token, token: &Token) -> bool
     ensures { result ≡ spec.is_same_name name.now token.now }
 {
-    may_be_defined(name) && may_be_defined(token) && same_text(name.text.bytes(), token.text.bytes())
+    may_be_defined(name)
+        && may_be_defined(token)
+        && same_text(name.text.bytes(), token.text.bytes())
 }
 
 /// The place after the opener's word, if that stands here.

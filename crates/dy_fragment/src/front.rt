@@ -211,7 +211,13 @@ fn front_in_macro(token: &Token) -> Front
 }
 
 /// What a token at a place does.
-pub(crate) fn front_at(words: &Words, tokens: &[Token], token: &Token, at: usize, context: Context) -> Front
+pub(crate) fn front_at(
+    words: &Words,
+    tokens: &[Token],
+    token: &Token,
+    at: usize,
+    context: Context,
+) -> Front
     requires { at < length tokens.now }
     ensures { result ≡ spec.front_at words.now tokens.now token.now at context }
 {

@@ -40,7 +40,11 @@ fn fragments(alloc: Global, tokens: &[Token], words: &Words) -> Result<Vec<Fragm
 /// The tokens, grouped by brackets and by the words that are known, or the earliest fault: a closer
 /// that fits no opener, an opener that is left open, a `define` without a definition word, a foreign
 /// word after an `end`, or more than 200 groups in one another. Each token is read once.
-pub fn group(alloc: Global, tokens: &Items<Token>, words: &Words) -> Result<Items<Fragment>, Refusal>
+pub fn group(
+    alloc: Global,
+    tokens: &Items<Token>,
+    words: &Words,
+) -> Result<Items<Fragment>, Refusal>
     ensures { Gives seen_fragments result (group_of words.now tokens.now) }
 {
     let row = fragments(alloc, tokens.as_slice(), words)?;

@@ -7,6 +7,8 @@ mod grouping;
 mod laws;
 mod sign;
 mod steps;
+#[cfg(test)]
+mod tests;
 mod word;
 
 pub use closing::Closing;

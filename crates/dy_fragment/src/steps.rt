@@ -66,7 +66,11 @@ pub(crate) fn earlier(alloc: Global, deep: Option<Place>, place: Place) -> Refus
 }
 
 /// A token after the trees before it.
-fn with_leaf(deep: Option<Place>, row: Vec<Fragment>, token: &Token) -> Result<Vec<Fragment>, Refusal>
+fn with_leaf(
+    deep: Option<Place>,
+    row: Vec<Fragment>,
+    token: &Token,
+) -> Result<Vec<Fragment>, Refusal>
     ensures { Gives (λ r. seen_fragments r.items) result (Ok (spec.with_tree deep (seen_fragments row.items) (one token.now))) }
 {
     let mut row = row;
@@ -105,13 +109,7 @@ fn deeper(deep: Option<Place>, depth: usize, place: Place) -> Option<Place>
 {
     match deep {
         Some(first) => Some(first),
-        None => {
-            if depth < LIMIT {
-                None
-            } else {
-                Some(place)
-            }
-        }
+        None => { if depth < LIMIT { None } else { Some(place) } }
     }
 }
 
@@ -238,7 +236,15 @@ fn close_step(
     match open_groups.pop() {
         None => Err(earlier(alloc, deep, token.place)),
         Some(innermost) => {
-            let closed = close(words, tokens, innermost.closing, closer, token, at + 1, context);
+            let closed = close(
+                words,
+                tokens,
+                innermost.closing,
+                closer,
+                token,
+                at + 1,
+                context,
+            );
             closed_step(alloc, deep, row, token, innermost, open_groups, closed)
         }
     }

@@ -67,7 +67,9 @@ fn is_known_in(word: &Word, number: u32) -> bool
 fn fits(kind: MacroKind, token: &Token, word: &Word) -> bool
     ensures { result ≡ spec.fits kind token.now word.now }
 {
-    is_of(kind, word.kind) && is_known_in(word, token.module) && same_text(word.name.bytes(), token.text.bytes())
+    is_of(kind, word.kind)
+        && is_known_in(word, token.module)
+        && same_text(word.name.bytes(), token.text.bytes())
 }
 
 fn is_one_of(kind: MacroKind, token: &Token, words: &[Word]) -> bool
@@ -93,7 +95,10 @@ fn has_no_end(token: &Token) -> bool
     ensures { result ≡ spec.has_no_end token.now }
 {
     let text = token.text.bytes();
-    same_text(text, b"constant") || same_text(text, b"domain") || same_text(text, b"generic") || same_text(text, b"variable")
+    same_text(text, b"constant")
+        || same_text(text, b"domain")
+        || same_text(text, b"generic")
+        || same_text(text, b"variable")
 }
 
 /// What the definition word of a `define` is.
