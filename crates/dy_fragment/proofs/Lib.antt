@@ -5,3 +5,4 @@ pub mod Turns
 pub mod Reading
 pub mod Sound
 pub mod Verdicts
+pub mod Refusing

@@ -4,3 +4,4 @@ pub mod Fronts
 pub mod Closings
 pub mod Steps
 pub mod Groups
+pub mod Faults

@@ -6,6 +6,8 @@ ghost use Rattle.dy_base.specs.declared.fault.Place.{Place};
 ghost use Rattle.dy_tree.specs.declared.token.Token.{Token};
 ghost use Rattle.dy_tree.specs.declared.words.Words.{Words};
 ghost use Rattle.dy_tree.specs.Fragments.{SeenFragment};
+ghost use Rattle.dy_base.specs.declared.fault.Fault.{Fault};
+ghost use Rattle.dy_fragment.specs.Faults.{Refused};
 ghost use Rattle.dy_fragment.specs.Groups.{Grouped, depth};
 ghost use Rattle.dy_fragment.specs.Steps.{fault_at, group_of};
 
@@ -21,4 +23,6 @@ pub fn group_laws()
     ensures deep { (words : Words) (tokens : List Token) (fs : List SeenFragment) → Grouped words tokens fs → 200 < depth fs → (place : Place) × (group_of words tokens ≡ Err (fault_at TooDeep place)) }
     // What is refused as unbalanced has no trees.
     ensures none { (words : Words) (tokens : List Token) (place : Place) (fs : List SeenFragment) → group_of words tokens ≡ Err (fault_at Unbalanced place) → Grouped words tokens fs → ⊥ }
+    // What is refused has this fault, and it is the first.
+    ensures refused { (words : Words) (tokens : List Token) (fault : Fault) → group_of words tokens ≡ Err fault → Refused 200 words tokens fault }
 {}

@@ -69,7 +69,7 @@ fn kind_of(text: &[u8]) -> (TokenKind, usize, usize, u32) {
 }
 
 fn part(text: &[u8], skip: usize, drop: usize) -> &[u8] {
-    if skip + drop <= text.len() {
+    if drop <= text.len() && skip <= text.len() - drop {
         &text[skip..text.len() - drop]
     } else {
         text
@@ -207,7 +207,7 @@ fn nested(
     tokens.push(token_of(alloc, back, last)?)?;
     let mut out = String::new(alloc);
     match group(alloc, &tokens, &words) {
-        Ok(_) => out.push_str(" grouped")?,
+        Ok(_fragments) => out.push_str(" grouped")?,
         Err(Refusal::Fault(fault)) => write_fault(&mut out, &fault)?,
         Err(Refusal::Memory) => out.push_str(" memory")?,
     }
