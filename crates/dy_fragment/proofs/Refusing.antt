@@ -49,10 +49,11 @@ module _ (limit : ℕ) (words : Words) (tokens : List Token) where
       let sum = depth_append fs gs in
       (depth (fs ++ gs), outside to e (fs ++ gs) (depth (fs ++ gs)) (groups_append 0 start at c fs to e gs groups more) refl, omega arith)
   further at c os m to e gs (inside a b c2 d e2 t k os2 fs m2 n reached found front groups is) more =
-      let sum = depth_append fs gs in
-      (max m2 (suc (length os2) + depth (fs ++ gs)),
+      let sum = depth_append fs gs in (
+        max m2 (suc (length os2) + depth (fs ++ gs)),
         inside a to c2 d e t k os2 (fs ++ gs) m2 (max m2 (suc (length os2) + depth (fs ++ gs))) reached found front (groups_append (a + 1) d at c fs to e gs groups more) refl,
-        omega arith)
+        omega arith,
+      )
 
   -- how the innermost group was reached
   abbrev Around : ℕ → Context → ℕ → List Pending → Type 0
@@ -131,9 +132,11 @@ module _ (limit : ℕ) (words : Words) (tokens : List Token) where
       let size : length os ≡ length (map pending os) = sym (length-map os pending) in
       let top : ℕ = max m (suc (length (map pending os)) + depth []) in
       let is : top ≡ max m (suc (length os)) = omega arith in
-      more (at + 1) d (record { opener = t; closing = k; before = row } ∷ os) [] (deeper limit deep (length os) t.place) enough
-        (top, inside at (at + 1) c d d t k (map pending os) [] m top reached found front (nothing (at + 1) d) refl,
-          deeper_held deep at m top c d t k (map pending os) (length os) (ltb (length os) limit) depths size reached found front is refl) e
+      more (at + 1) d (record { opener = t; closing = k; before = row } ∷ os) [] (deeper limit deep (length os) t.place) enough (
+        top,
+        inside at (at + 1) c d d t k (map pending os) [] m top reached found front (nothing (at + 1) d) refl,
+        deeper_held deep at m top c d t k (map pending os) (length os) (ltb (length os) limit) depths size reached found front is refl,
+      ) e
 
   refuses_closed : (n : ℕ) (f : Fault) (at : ℕ) (c : Context) (t : Token) (j : Closer) (o : SeenOpen) (os : List SeenOpen) (row : List SeenFragment) (deep : Option Place) (r : Closed) → Refuses n f
       → ((to : ℕ) (g : Context) → r ≡ closes.At to g → length tokens ≤ n + to)
@@ -144,10 +147,10 @@ module _ (limit : ℕ) (words : Words) (tokens : List Token) where
   refuses_closed n f at c t j o os row deep (closes.At to g) more enough (m, reached, depths) found front is e =
       let (from, b, d, fs, less, before, met, opens, groups, top) = around at c (pending o ∷ map pending os) m reached in
       let (k, farther, same) = further from b (map pending os) less to g (group o.opener (pack fs) t ∷ []) before
-        (closed from at to to b d c g g o.opener t o.closing j fs [] met opens groups found front is (nothing to g)) in
+      (closed from at to to b d c g g o.opener t o.closing j fs [] met opens groups found front is (nothing to g)) in
       let size : length (map pending os) ≡ length os = length-map os pending in
       more to g os (with_tree deep o.before (group o.opener (pack row) t)) deep (enough to g refl)
-        (k, farther, shallower deep m k (length (o ∷ os)) (length os) depths (omega arith) (omega arith)) e
+      (k, farther, shallower deep m k (length (o ∷ os)) (length os) depths (omega arith) (omega arith)) e
 
   refuses_close : (n : ℕ) (f : Fault) (at : ℕ) (c : Context) (t : Token) (j : Closer) (os : List SeenOpen) (row : List SeenFragment) (deep : Option Place) → Refuses n f
       → ((o : SeenOpen) (to : ℕ) (g : Context) → close words tokens o.closing j t (at + 1) c ≡ closes.At to g → length tokens ≤ n + to)
@@ -174,9 +177,9 @@ module _ (limit : ℕ) (words : Words) (tokens : List Token) where
   refuses_found n f at c os row deep None more enough held found e = refuses_finish f at c os row deep found held e
   refuses_found n f at c os row deep (Some t) more enough held found e =
       refuses_by n f at c t os row deep (front_at words tokens t at c) more (omega arith)
-        (λ (j : Closer) (o : SeenOpen) (to : ℕ) (g : Context) (is : close words tokens o.closing j t (at + 1) c ≡ closes.At to g).
-            let ahead = close_ahead words tokens o.closing j t (at + 1) c to g is in omega arith)
-        held found refl e
+      (λ (j : Closer) (o : SeenOpen) (to : ℕ) (g : Context) (is : close words tokens o.closing j t (at + 1) c ≡ closes.At to g).
+      let ahead = close_ahead words tokens o.closing j t (at + 1) c to g is in omega arith)
+      held found refl e
 
   refuses : (n : ℕ) (f : Fault) → Refuses n f
   refuses zero f at c os row deep enough held e = refuses_finish f at c os row deep (slice_get_past tokens at (omega arith)) held e
@@ -186,4 +189,4 @@ module _ (limit : ℕ) (words : Words) (tokens : List Token) where
   pub refused : (f : Fault) → group_within limit words tokens ≡ Err f → Refused limit words tokens f
   refused f e =
       refuses (length tokens) f 0 start [] [] None (omega arith)
-        (depth [], outside 0 start [] (depth []) (nothing 0 start) refl, (omega arith, omega arith)) e
+      (depth [], outside 0 start [] (depth []) (nothing 0 start) refl, (omega arith, omega arith)) e

@@ -214,8 +214,7 @@ fn nested(
     Ok(out)
 }
 
-const GROUPS: [(&str, &str); 89] = [
-    // brackets
+const BRACKETS: [(&str, &str); 18] = [
     ("( a )", " {( a )}"),
     ("[ a ]", " {[ a ]}"),
     ("{ a }", " {{ a }}"),
@@ -234,7 +233,9 @@ const GROUPS: [(&str, &str); 89] = [
     ("( [ ]", " Unbalanced @0"),
     ("( [ ) ]", " Unbalanced @2"),
     ("a ; b", " a ; b"),
-    // statements
+];
+
+const OPENERS: [(&str, &str); 15] = [
     ("begin a end", " {begin a end}"),
     ("block ( ) a end block", " {block {( )} a end}"),
     ("case a end case", " {case a end}"),
@@ -250,6 +251,9 @@ const GROUPS: [(&str, &str); 89] = [
     ("if@ a end if@", " {if a end}"),
     ("call a", " call a"),
     ("begin if end if end begin", " {begin {if end} end}"),
+];
+
+const ENDS: [(&str, &str); 17] = [
     ("begin end ; if end", " {begin end} ; {if end}"),
     ("end", " Unbalanced @0"),
     ("begin", " Unbalanced @0"),
@@ -270,7 +274,9 @@ const GROUPS: [(&str, &str); 89] = [
     ),
     ("\\if a \\end", " \\if a \\end"),
     ("end if", " Unbalanced @0"),
-    // methods of a local
+];
+
+const LOCALS: [(&str, &str); 8] = [
     (
         "local method f ( ) end method f",
         " local {method f {( )} end}",
@@ -288,7 +294,9 @@ const GROUPS: [(&str, &str); 89] = [
     ("method f ( ) end f", " {method f {( )} end} f"),
     ("method class ( ) end class", " Unbalanced @5"),
     ("a , method f ( ) end f", " a , {method f {( )} end} f"),
-    // definitions
+];
+
+const DEFINED: [(&str, &str); 11] = [
     (
         "define class <x> ( <y> ) end class <x>",
         " {define class <x> {( <y> )} end}",
@@ -321,6 +329,9 @@ const GROUPS: [(&str, &str); 89] = [
         "define method \\+ ( ) end method \\+",
         " {define method \\+ {( )} end}",
     ),
+];
+
+const BARE: [(&str, &str); 12] = [
     ("define table t a end table t", " {define table t a end}"),
     ("define constant x = 1 ;", " define constant x = 1 ;"),
     ("define domain f ( )", " define domain f {( )}"),
@@ -339,7 +350,9 @@ const GROUPS: [(&str, &str); 89] = [
     ("begin define", " Unbalanced @1"),
     ("( define foo ) class a end", " Unbalanced @3"),
     ("define function f end class", " Unbalanced @4"),
-    // macros
+];
+
+const MACROS: [(&str, &str); 8] = [
     (
         "define macro m { if ( a ) end } => { define } end macro m",
         " {define macro m {{ if {( a )} end }} => {{ define }} end}",
@@ -362,12 +375,64 @@ const GROUPS: [(&str, &str); 89] = [
     ),
 ];
 
-#[test]
-fn groups(rt: HostRuntime) -> Result<(), Fail> {
-    for (text, wanted) in GROUPS {
-        let got = shown(rt.alloc(), text)?;
-        assert!(rt; got.as_str() == wanted, "{text} gave {got}");
+/// Each case that gave something else than is wanted.
+fn misses(alloc: Global, cases: &[(&str, &str)]) -> Result<String, AllocError> {
+    let mut out = String::new(alloc);
+    for (text, wanted) in cases {
+        let got = shown(alloc, text)?;
+        if got.as_str() != *wanted {
+            write!(out, "{text} gave{got}; ")?;
+        }
     }
+    Ok(out)
+}
+
+#[test]
+fn brackets(rt: HostRuntime) -> Result<(), Fail> {
+    let misses = misses(rt.alloc(), &BRACKETS)?;
+    assert!(rt; misses.as_str() == "", "{misses}");
+    Ok(())
+}
+
+#[test]
+fn statements(rt: HostRuntime) -> Result<(), Fail> {
+    let misses = misses(rt.alloc(), &OPENERS)?;
+    assert!(rt; misses.as_str() == "", "{misses}");
+    Ok(())
+}
+
+#[test]
+fn ends(rt: HostRuntime) -> Result<(), Fail> {
+    let misses = misses(rt.alloc(), &ENDS)?;
+    assert!(rt; misses.as_str() == "", "{misses}");
+    Ok(())
+}
+
+#[test]
+fn local_methods(rt: HostRuntime) -> Result<(), Fail> {
+    let misses = misses(rt.alloc(), &LOCALS)?;
+    assert!(rt; misses.as_str() == "", "{misses}");
+    Ok(())
+}
+
+#[test]
+fn definitions(rt: HostRuntime) -> Result<(), Fail> {
+    let misses = misses(rt.alloc(), &DEFINED)?;
+    assert!(rt; misses.as_str() == "", "{misses}");
+    Ok(())
+}
+
+#[test]
+fn definition_words(rt: HostRuntime) -> Result<(), Fail> {
+    let misses = misses(rt.alloc(), &BARE)?;
+    assert!(rt; misses.as_str() == "", "{misses}");
+    Ok(())
+}
+
+#[test]
+fn macros(rt: HostRuntime) -> Result<(), Fail> {
+    let misses = misses(rt.alloc(), &MACROS)?;
+    assert!(rt; misses.as_str() == "", "{misses}");
     Ok(())
 }
 
