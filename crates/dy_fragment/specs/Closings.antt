@@ -1,4 +1,4 @@
--- What closes a group (DRM 4, "Begin" and the other statements; DRM 9, "Definitions"; the tests after `end` are own).
+-- What closes a group (DRM 2, "Statements" and "Definitions"; what may follow `end`, and which words may not, is own).
 use Rattle.std.specs.Prelude.{ℕ, ◌+◌, ◌≤◌, Bool, true, false, ◌&&◌, ◌||◌, if◌then◌else◌, List, Option, Some, None, slice_get, not}
 use Rattle.std.specs.Str.{bytes_eq}
 use Rattle.dy_base.specs.declared.fault.Place.{Place}

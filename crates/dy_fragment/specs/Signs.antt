@@ -1,4 +1,4 @@
--- Brackets and commas (DRM 2, "Special tokens").
+-- Brackets and commas (DRM 2, "Lexical syntax").
 use Rattle.std.specs.Prelude.{ℕ, Bool, true, false, if◌then◌else◌, List, codes}
 use Rattle.std.specs.Str.{bytes_eq}
 use Rattle.dy_fragment.specs.declared.sign.Bracket.{Bracket}

@@ -1,4 +1,4 @@
--- Which tokens are words (DRM 2, "Reserved words", and appendix B; the words of macros are own).
+-- Which tokens are words (DRM 2, "Lexical syntax", and DRM 10; in which modules a word is known is own).
 use Rattle.std.specs.Prelude.{ℕ, ◌+◌, Bool, true, false, ◌&&◌, ◌||◌, ◌==◌, if◌then◌else◌, List, [], ◌∷◌, codes, Option, Some, None}
 use Rattle.std.specs.Str.{bytes_eq}
 use Rattle.dy_tree.specs.declared.token.TokenKind.{TokenKind}
