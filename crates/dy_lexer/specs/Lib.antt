@@ -2,6 +2,7 @@ pub mod Bytes
 pub mod Words
 pub mod Scan
 pub mod Characters
+pub mod Enclosed
 pub mod Literals
 pub mod Pieces
 pub mod Tokens

@@ -1,12 +1,13 @@
 //! Laws of the tokens of texts.
 
-ghost use Rattle.std.specs.Prelude.{◌≡◌, ◌↔◌, ℕ, ◌≤◌, ◌++◌, Bool, List, length, Ok, Err, Some};
+ghost use Rattle.std.specs.Prelude.{◌≡◌, ◌↔◌, ℕ, ◌≤◌, ◌++◌, ◌==◌, Bool, false, List, length, Ok, Err, Some};
 ghost use Rattle.dy_base.specs.declared.fault.Fault.{Fault};
 ghost use Rattle.dy_tree.specs.declared.token.Token.{Token};
 ghost use Rattle.dy_lexer.specs.declared.class.Piece.{Piece};
 ghost use Rattle.dy_lexer.specs.Pieces.{piece_at};
-ghost use Rattle.dy_lexer.specs.Scan.{decoded};
+ghost use Rattle.dy_lexer.specs.Scan.{decoded, literal_end, comment_end};
 ghost use Rattle.dy_lexer.specs.Characters.{Characters};
+ghost use Rattle.dy_lexer.specs.Enclosed.{Literal, Comment};
 ghost use Rattle.dy_lexer.specs.Forms.{Begins};
 ghost use Rattle.dy_lexer.specs.Tokens.{tokens_of};
 ghost use Rattle.dy_lexer.specs.Cut.{Cut, Broken, Judged};
@@ -29,4 +30,8 @@ pub fn token_laws()
     ensures next { (kind : Piece) (piece rest : List ℕ) → Begins kind piece rest → piece_at (piece ++ rest) ≡ Ok (kind, length piece) }
     // What the characters of a literal stand for is read as they are spelled.
     ensures characters { (tabs : Bool) (text values : List ℕ) → (decoded tabs text ≡ Some values) ↔ Characters tabs text values }
+    // A literal ends at the quote that closes it.
+    ensures literals { (quote : ℕ) → (quote == 10) ≡ false → (92 == quote) ≡ false → (body : List ℕ) → (literal_end quote false body ≡ Some (length body)) ↔ Literal quote body }
+    // A block comment ends with the mark that closes it.
+    ensures comments { (body : List ℕ) → (comment_end 1 0 body ≡ Some (length body)) ↔ Comment 1 body }
 {}
