@@ -1,5 +1,5 @@
 -- A closer and what may follow it are not read twice.
-use Rattle.std.proofs.Common.{◌≡◌, ℕ, ◌+◌, ◌≤◌, Bool, true, false, cond, List, Option, Some, None, refl, arith}
+use Rattle.std.proofs.Common.{◌≡◌, ℕ, ◌+◌, ◌≤◌, Bool, true, false, cond, List, Option, Some, None, arith}
 use Rattle.std.specs.Prelude.{slice_get}
 use Rattle.dy_base.specs.declared.fault.Place.{Place}
 use Rattle.dy_tree.specs.declared.token.Token.{Token}
@@ -11,10 +11,9 @@ use Rattle.dy_fragment.specs.declared.closing.Opening.{Opening}
 use Rattle.dy_fragment.specs.declared.closing.Opening.TheVariants as openings
 use Rattle.dy_fragment.specs.declared.closing.Closing.{Closing}
 use Rattle.dy_fragment.specs.declared.closing.Closing.TheVariants as closings
-use Rattle.dy_fragment.specs.declared.closing.Closed.{Closed}
 use Rattle.dy_fragment.specs.declared.closing.Closed.TheVariants.{At, Wrong}
 use Rattle.dy_fragment.specs.Signs.{same_shape}
-use Rattle.dy_fragment.specs.Closings.{is_same_word, is_same_name, past, past_word, past_name, past_end, is_foreign, after_word, closed_word, after_bracket, close}
+use Rattle.dy_fragment.specs.Closings.{is_same_word, is_same_name, past, past_word, past_end, is_foreign, after_word, closed_word, after_bracket, close}
 
 one_more : (b : Bool) (at : ℕ) → at ≤ cond b (at + 1) at
 one_more true at = omega arith

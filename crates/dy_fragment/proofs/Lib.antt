@@ -6,3 +6,5 @@ pub mod Reading
 pub mod Sound
 pub mod Verdicts
 pub mod Refusing
+pub mod Telling
+pub mod Calls

@@ -1,5 +1,5 @@
 -- What is grouped is read, unless it is too deep.
-use Rattle.std.proofs.Common.{◌≡◌, ℕ, zero, suc, ◌+◌, ◌<◌, ◌≤◌, max, Bool, true, false, cond, ltb, List, [], ◌∷◌, ◌++◌, length, Option, Some, None, Result, Ok, Err, refl, sym, ap, ◌∙◌, arith, append_assoc}
+use Rattle.std.proofs.Common.{◌≡◌, ℕ, zero, suc, ◌+◌, ◌<◌, ◌≤◌, Bool, true, false, cond, ltb, List, [], ◌∷◌, ◌++◌, length, Option, Some, None, refl, sym, ap, ◌∙◌, arith, append_assoc}
 use Rattle.std.specs.Prelude.{slice_get}
 use Rattle.std.proofs.lemmas.List.{append-nil}
 use Rattle.std.proofs.lemmas.Bool.{ltb-true, lt-ltb}
@@ -15,7 +15,7 @@ use Rattle.dy_fragment.specs.declared.closing.Closing.{Closing}
 use Rattle.dy_fragment.specs.declared.closing.Closed.TheVariants.{At}
 use Rattle.dy_fragment.specs.Fronts.{front_at}
 use Rattle.dy_fragment.specs.Closings.{close}
-use Rattle.dy_fragment.specs.Steps.{SeenOpen, SeenState, Grouping, with_tree, deeper, run}
+use Rattle.dy_fragment.specs.Steps.{SeenOpen, SeenState, with_tree, deeper, run}
 use Rattle.dy_fragment.specs.Groups.{Groups, nothing, leaf, closed, depth}
 use Rattle.dy_fragment.proofs.Ahead.{close_ahead}
 
@@ -93,7 +93,7 @@ module _ (limit : ℕ) (words : Words) (tokens : List Token) where
         beyond = λ h fits. let under = rest.beyond h fits in omega arith;
       }
 
-  open_goes : (m at : ℕ) (c d : Context) (t : Token) (k : Closing) (os : List SeenOpen) (row : List SeenFragment) (deep : Option Place)
+  pub open_goes : (m at : ℕ) (c d : Context) (t : Token) (k : Closing) (os : List SeenOpen) (row : List SeenFragment) (deep : Option Place)
       → slice_get tokens at ≡ Some t → front_at words tokens t at c ≡ Opens k d
       → run limit words tokens (suc m) (state_at at c os row deep)
       ≡ run limit words tokens m (state_at (at + 1) d (record { opener = t; closing = k; before = row } ∷ os) [] (deeper limit deep (length os) t.place))
@@ -105,7 +105,7 @@ module _ (limit : ℕ) (words : Words) (tokens : List Token) where
       ≡ run limit words tokens m (state_at after g os (with_tree deep o.before (group o.opener (pack row) t)) deep)
   close_goes m at after c g t j o os row deep found front closes = rw (found, front, closes) refl
 
-  one_less : (n at : ℕ) → at < length tokens → length tokens ≤ n + at → (m : ℕ) × (n ≡ suc m)
+  pub one_less : (n at : ℕ) → at < length tokens → length tokens ≤ n + at → (m : ℕ) × (n ≡ suc m)
   one_less zero at room enough = absurd (omega arith)
   one_less (suc m) at room enough = (m, refl)
 

@@ -1,10 +1,10 @@
 -- What is refused has the fault that is told.
-use Rattle.std.proofs.Common.{◌≡◌, ℕ, zero, suc, ◌+◌, ◌<◌, ◌≤◌, max, Bool, true, false, cond, ltb, List, [], ◌∷◌, ◌++◌, length, map, Option, Some, None, Result, Ok, Err, refl, sym, ap, subst, ◌∙◌, arith}
+use Rattle.std.proofs.Common.{◌≡◌, ℕ, zero, suc, ◌+◌, ◌≤◌, max, Bool, true, false, ltb, List, [], ◌∷◌, ◌++◌, length, map, Option, Some, None, Err, refl, sym, arith}
 use Rattle.std.specs.Prelude.{slice_get}
 use Rattle.std.proofs.lemmas.Bool.{ltb-true, ltb-false}
 use Rattle.std.proofs.lemmas.List.{length-map}
-use Rattle.std.proofs.lemmas.Option.{slice_get_within, slice_get_past}
-use Rattle.dy_base.specs.declared.kind.Kind.TheVariants.{Unbalanced, TooDeep}
+use Rattle.std.proofs.lemmas.Option.{slice_get_past}
+use Rattle.dy_base.specs.declared.kind.Kind.TheVariants.{TooDeep}
 use Rattle.dy_base.specs.declared.fault.Place.{Place}
 use Rattle.dy_base.specs.declared.fault.Fault.{Fault}
 use Rattle.dy_tree.specs.declared.token.Token.{Token}
@@ -19,8 +19,8 @@ use Rattle.dy_fragment.specs.declared.closing.Closed.{Closed}
 use Rattle.dy_fragment.specs.declared.closing.Closed.TheVariants as closes
 use Rattle.dy_fragment.specs.Fronts.{front_at}
 use Rattle.dy_fragment.specs.Closings.{close}
-use Rattle.dy_fragment.specs.Steps.{SeenOpen, SeenState, Grouping, fault_at, earlier, with_tree, deeper, closed_step, close_step, step_by, and_then, or_finish, finish_with, run, start, group_within}
-use Rattle.dy_fragment.specs.Groups.{Groups, nothing, leaf, closed, Grouped, depth_of, depth}
+use Rattle.dy_fragment.specs.Steps.{SeenOpen, Grouping, fault_at, earlier, with_tree, deeper, closed_step, close_step, step_by, and_then, or_finish, finish_with, run, start, group_within}
+use Rattle.dy_fragment.specs.Groups.{Groups, nothing, leaf, closed, depth}
 use Rattle.dy_fragment.specs.Faults.{Pending, Reached, outside, inside, Unfit, no_opener, wrong_closer, no_definition_word, left_open, DeepAt, Refused, unbalanced, too_deep, both}
 use Rattle.dy_fragment.proofs.Ahead.{close_ahead}
 use Rattle.dy_fragment.proofs.Reading.{state_at}

@@ -1,10 +1,9 @@
 -- What is read is grouped.
-use Rattle.std.proofs.Common.{◌≡◌, ℕ, zero, suc, ◌+◌, ◌<◌, ◌≤◌, Bool, true, false, cond, ltb, List, [], ◌∷◌, ◌++◌, length, Option, Some, None, Result, Ok, Err, refl, sym, ap, subst, ◌∙◌, arith, append_assoc}
+use Rattle.std.proofs.Common.{◌≡◌, ℕ, zero, suc, ◌+◌, ◌≤◌, List, [], ◌∷◌, ◌++◌, length, Option, Some, None, Ok, refl, sym, subst, ◌∙◌, arith, append_assoc}
 use Rattle.std.specs.Prelude.{slice_get}
 use Rattle.std.proofs.lemmas.List.{append-nil}
-use Rattle.std.proofs.lemmas.Option.{slice_get_within, slice_get_past}
+use Rattle.std.proofs.lemmas.Option.{slice_get_past}
 use Rattle.dy_base.specs.declared.fault.Place.{Place}
-use Rattle.dy_base.specs.declared.fault.Fault.{Fault}
 use Rattle.dy_tree.specs.declared.token.Token.{Token}
 use Rattle.dy_tree.specs.declared.words.Words.{Words}
 use Rattle.dy_tree.specs.Fragments.{SeenFragment, one, group, pack}
@@ -17,7 +16,7 @@ use Rattle.dy_fragment.specs.declared.closing.Closed.{Closed}
 use Rattle.dy_fragment.specs.declared.closing.Closed.TheVariants as closes
 use Rattle.dy_fragment.specs.Fronts.{front_at}
 use Rattle.dy_fragment.specs.Closings.{close}
-use Rattle.dy_fragment.specs.Steps.{SeenOpen, SeenState, Step, Grouping, with_tree, deeper, closed_step, close_step, step_by, step, and_then, or_finish, finish, finish_with, complete_row, run}
+use Rattle.dy_fragment.specs.Steps.{SeenOpen, deeper, closed_step, close_step, step_by, and_then, or_finish, finish_with, run}
 use Rattle.dy_fragment.specs.Groups.{Groups, nothing, leaf, closed}
 use Rattle.dy_fragment.proofs.Ahead.{close_ahead}
 use Rattle.dy_fragment.proofs.Reading.{state_at}

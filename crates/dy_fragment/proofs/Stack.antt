@@ -1,8 +1,8 @@
 -- The stack of open groups, the innermost first.
-use Rattle.std.proofs.Common.{◌≡◌, ℕ, List, [], ◌∷◌, ◌++◌, length, map, reverse, refl, sym, ap, ◌∙◌, arith}
+use Rattle.std.proofs.Common.{◌≡◌, List, [], ◌∷◌, ◌++◌, length, map, reverse, refl, ap, ◌∙◌, arith}
 use Rattle.std.proofs.lemmas.List.{reverse-append, length-reverse, map-append, length-map}
 use Rattle.dy_fragment.specs.declared.steps.Open.{Open}
-use Rattle.dy_fragment.specs.Steps.{SeenOpen, seen_open, seen_opens}
+use Rattle.dy_fragment.specs.Steps.{seen_open, seen_opens}
 
 pub opens_pushed : (os : List Open) (o : Open) → seen_opens (os ++ o ∷ []) ≡ seen_open o ∷ seen_opens os
 opens_pushed os o = ap reverse (map-append seen_open os (o ∷ [])) ∙ reverse-append (map seen_open os) (seen_open o ∷ [])

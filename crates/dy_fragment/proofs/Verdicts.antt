@@ -1,16 +1,14 @@
 -- Tokens are grouped exactly where there are trees of them that are not too deep, and there are no two.
-use Rattle.std.proofs.Common.{◌≡◌, ℕ, zero, suc, ◌+◌, ◌<◌, ◌≤◌, List, [], ◌∷◌, ◌++◌, length, Option, Some, None, Result, Ok, Err, refl, sym, ap, subst, ◌∙◌, arith}
-use Rattle.std.specs.Prelude.{slice_get}
+use Rattle.std.proofs.Common.{◌≡◌, ℕ, ◌+◌, ◌<◌, ◌≤◌, List, [], length, Option, Some, None, Ok, Err, refl, sym, ap, subst, ◌∙◌, arith}
 use Rattle.dy_base.specs.declared.kind.Kind.{Kind}
 use Rattle.dy_base.specs.declared.kind.Kind.TheVariants.{Unbalanced, TooDeep}
 use Rattle.dy_base.specs.declared.fault.Place.{Place}
 use Rattle.dy_tree.specs.declared.token.Token.{Token}
 use Rattle.dy_tree.specs.declared.words.Words.{Words}
 use Rattle.dy_tree.specs.Fragments.{SeenFragment}
-use Rattle.dy_fragment.specs.declared.front.Context.{Context}
-use Rattle.dy_fragment.specs.Steps.{SeenState, Grouping, fault_at, complete_row, finish, run, start, group_within}
-use Rattle.dy_fragment.specs.Groups.{Groups, Grouped, depth}
-use Rattle.dy_fragment.proofs.Reading.{state_at, Reads, reads}
+use Rattle.dy_fragment.specs.Steps.{Grouping, fault_at, complete_row, start, group_within}
+use Rattle.dy_fragment.specs.Groups.{Grouped, depth}
+use Rattle.dy_fragment.proofs.Reading.{state_at, reads}
 use Rattle.dy_fragment.proofs.Sound.{sound}
 use Rattle.dy_fragment.proofs.Turns.{run_end}
 

@@ -1,13 +1,11 @@
 -- What closes a group (DRM 2, "Statements" and "Definitions"; what may follow `end`, and which words may not, is own).
-use Rattle.std.specs.Prelude.{ℕ, ◌+◌, ◌≤◌, Bool, true, false, ◌&&◌, ◌||◌, if◌then◌else◌, List, Option, Some, None, slice_get, not}
+use Rattle.std.specs.Prelude.{ℕ, ◌+◌, ◌≤◌, Bool, ◌&&◌, ◌||◌, if◌then◌else◌, List, Option, Some, None, slice_get, not}
 use Rattle.std.specs.Str.{bytes_eq}
-use Rattle.dy_base.specs.declared.fault.Place.{Place}
 use Rattle.dy_tree.specs.declared.token.Token.{Token}
 use Rattle.dy_tree.specs.declared.macros.MacroKind.TheVariants as kinds
 use Rattle.dy_tree.specs.declared.words.Words.{Words}
 use Rattle.dy_fragment.specs.declared.front.Mode.{Mode}
 use Rattle.dy_fragment.specs.declared.front.Mode.TheVariants as modes
-use Rattle.dy_fragment.specs.declared.front.Local.{Local}
 use Rattle.dy_fragment.specs.declared.front.Local.TheVariants as locals
 use Rattle.dy_fragment.specs.declared.front.Context.{Context}
 use Rattle.dy_fragment.specs.declared.front.Closer.{Closer}

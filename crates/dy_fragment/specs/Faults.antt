@@ -1,5 +1,5 @@
 -- The first fault of tokens that have no trees, or whose trees are too deep.
-use Rattle.std.specs.Prelude.{◌≡◌, ℕ, suc, ◌+◌, ◌≤◌, max, List, [], ◌∷◌, length, slice_get, Option, Some, None}
+use Rattle.std.specs.Prelude.{◌≡◌, ℕ, suc, ◌+◌, ◌≤◌, max, List, [], ◌∷◌, length, slice_get, Some, None}
 use Rattle.dy_base.specs.declared.kind.Kind.TheVariants.{Unbalanced, TooDeep}
 use Rattle.dy_base.specs.declared.fault.Place.{Place}
 use Rattle.dy_base.specs.declared.fault.Fault.{Fault}

@@ -1,6 +1,5 @@
 -- Groups, as a relation between tokens and trees: the leaves of the trees in order are the tokens, and each bracket and each word is closed as the rule says.
-use Rattle.std.specs.Prelude.{◌≡◌, ℕ, suc, ◌+◌, ◌≤◌, max, List, [], ◌∷◌, slice_get, Option, Some, None}
-use Rattle.dy_base.specs.declared.kind.Kind.TheVariants.{Unbalanced}
+use Rattle.std.specs.Prelude.{◌≡◌, ℕ, suc, ◌+◌, max, List, [], ◌∷◌, slice_get, Some, None}
 use Rattle.dy_tree.specs.declared.token.Token.{Token}
 use Rattle.dy_tree.specs.declared.words.Words.{Words}
 use Rattle.dy_tree.specs.Fragments.{SeenFragment, SeenFragments, one, group, no_fragment, fragment_and, pack}

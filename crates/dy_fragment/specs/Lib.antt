@@ -5,3 +5,4 @@ pub mod Closings
 pub mod Steps
 pub mod Groups
 pub mod Faults
+pub mod Answers

@@ -25,4 +25,6 @@ pub fn group_laws()
     ensures none { (words : Words) (tokens : List Token) (place : Place) (fs : List SeenFragment) → group_of words tokens ≡ Err (fault_at Unbalanced place) → Grouped words tokens fs → ⊥ }
     // What is refused has this fault, and it is the first.
     ensures refused { (words : Words) (tokens : List Token) (fault : Fault) → group_of words tokens ≡ Err fault → Refused 200 words tokens fault }
+    // What has a first fault is refused with it.
+    ensures fault { (words : Words) (tokens : List Token) (fault : Fault) → Refused 200 words tokens fault → group_of words tokens ≡ Err fault }
 {}

@@ -1,8 +1,7 @@
-use Rattle.std.proofs.Common.{◌≡◌, ℕ, ◌+◌, ◌<◌, ◌≤◌, length, Some, refl, sym, ap, ◌∙◌, arith}
-use Rattle.std.specs.Prelude.{slice_get}
+use Rattle.std.proofs.Common.{◌≡◌, ◌<◌, length, refl, sym, ap, arith}
 use Rattle.std.proofs.lemmas.Result.{err_from_is_err_and}
 use Rattle.std.proofs.lemmas.Option.{slice_get_read}
-use Rattle.dy_fragment.specs.Steps.{SeenState, seen_state, at_start, run}
+use Rattle.dy_fragment.specs.Steps.{SeenState, seen_state, run}
 use Rattle.dy_fragment.proofs.Turns.{ends, turn, fails}
 use Rattle.dy_fragment.proofs.grouping.fragments.Goals as goal
 
