@@ -7,6 +7,7 @@ mod ids;
 mod items;
 mod kind;
 mod name;
+mod table;
 mod text;
 
 pub use fault::{Fault, Place, Refusal, Stop};
@@ -15,4 +16,5 @@ pub use ids::{BindingId, ClassId, DomainId, GenericId, MethodId, Ref, What};
 pub use items::Items;
 pub use kind::Kind;
 pub use name::{Name, fold};
+pub use table::NameTable;
 pub use text::Text;
