@@ -10,8 +10,8 @@ use Rattle.dy_build.specs.declared.run.execute.RunEnd.TheVariants as ends
 use Rattle.dy_build.specs.declared.refused.Refused.{Refused}
 use Rattle.dy_build.specs.Refusals.{refusal_line}
 use Rattle.dy_build.specs.Lines.{unhandled_line}
-use Rattle.dy_build.specs.Meaning.{Outcome, Gave, Ended, Spent}
-use Rattle.dy_build.specs.Machine.{Final, Finished, Failed, OutOfFuel}
+use Rattle.dy_build.specs.Meaning.{Outcome, Gave, Exits, Ended, Spent}
+use Rattle.dy_build.specs.Machine.{Final, Finished, Failed, OutOfFuel, Unfinished}
 use Rattle.dy_build.specs.Code.{final_of}
 use Rattle.dy_build.specs.Endings.{EndsAs, Sends, sent_by}
 use Rattle.dy_build.specs.Outcome.{Report, Verdict, refused, run_report, build_report}
@@ -28,6 +28,7 @@ signalled_closes text final line result old new is puts (state, e) =
 
 pub report_of : (outcome : Outcome) → run_report outcome ≡ final_report (final_of outcome)
 report_of (Gave values state) = refl
+report_of (Exits tag values state) = refl
 report_of (Ended error state) = refl
 report_of (Spent state) = refl
 
@@ -35,6 +36,7 @@ sent_is : (final : Final) → sent_by final ≡ (final_report final).out
 sent_is (Finished state) = refl
 sent_is (Failed error state) = refl
 sent_is (OutOfFuel state) = refl
+sent_is (Unfinished state) = refl
 
 line_finishes : (report : Report) (result : ℕ) (a b c d : Option (List ℕ)) → Appends a b report.out → PutsLine report.status report.err result c d → Finishes report result (outputs a b c d)
 line_finishes report result a b c d sent (inl (status, line)) = inl (status, record { out = sent; err = line })
@@ -56,9 +58,9 @@ appends_nothing : (held : Option (List ℕ)) → Appends held held []
 appends_nothing None = tt
 appends_nothing (Some bytes) = sym (append-nil bytes)
 
-pub refused_finishes : (why : Refused) (verdict : Verdict) (result : ℕ) (a b c : Option (List ℕ)) → verdict ≡ refused why → PutsLine 2 (refusal_line why) result b c → Finishes (build_report verdict) result (outputs a a b c)
-refused_finishes why verdict result a b c is puts =
-    subst (λ (v : Verdict). Finishes (build_report v) result (outputs a a b c)) (sym is) (line_finishes (build_report (refused why)) result a a b c (appends_nothing a) puts)
+pub refused_finishes : (fuel : ℕ) (why : Refused) (verdict : Verdict) (result : ℕ) (a b c : Option (List ℕ)) → verdict ≡ refused why → PutsLine 2 (refusal_line why) result b c → Finishes (build_report fuel verdict) result (outputs a a b c)
+refused_finishes fuel why verdict result a b c is puts =
+    subst (λ (v : Verdict). Finishes (build_report fuel v) result (outputs a a b c)) (sym is) (line_finishes (build_report fuel (refused why)) result a a b c (appends_nothing a) puts)
 
 -- where a sink or memory failed, a front of the report was sent
 pub fronts_of : (report : Report) (result : ℕ) (ends : Outputs) → ((result ≡ 4) ⊎ Finishes report result ends) → ((result ≡ 5) ⊎ (result ≡ 6)) → SentFront report ends

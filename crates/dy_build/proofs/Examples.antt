@@ -3,7 +3,7 @@ use Rattle.std.proofs.Common.{◌≡◌, true, false, [], ◌∷◌, Some, None,
 use Rattle.std.specs.Prelude.{codes}
 use Rattle.std.specs.Fmt.{digits}
 use Rattle.dy_build.specs.Layout.{with_line_feeds, is_name, is_file_name, Lid, lid_of, is_library_file, body_of, source_name}
-use Rattle.dy_build.specs.Words.{build_of}
+use Rattle.dy_build.specs.Words.{build_with, build_of}
 use Rattle.dy_build.specs.Refusals.{refusal_line, no_file, syntax}
 
 -- the escape of a line end in a text is the byte 10
@@ -55,14 +55,29 @@ beside_lid = refl
 with_ending : source_name (codes "hello.lid") (codes "library.dylan") ≡ codes "library.dylan"
 with_ending = refl
 
-build : build_of (codes "build" ∷ codes "hello.lid" ∷ []) ≡ Some (codes "hello.lid")
+build : build_of (codes "build" ∷ codes "hello.lid" ∷ []) ≡ Some (build_with (codes "hello.lid") 10000000)
 build = refl
 
 build_option : build_of (codes "build" ∷ codes "--help" ∷ []) ≡ None
 build_option = refl
 
-build_standard_input : build_of (codes "build" ∷ codes "-" ∷ []) ≡ Some (codes "-")
+build_standard_input : build_of (codes "build" ∷ codes "-" ∷ []) ≡ Some (build_with (codes "-") 10000000)
 build_standard_input = refl
+
+build_fuel : build_of (codes "build" ∷ codes "--fuel" ∷ codes "0000000000026" ∷ codes "hello.lid" ∷ []) ≡ Some (build_with (codes "hello.lid") 26)
+build_fuel = refl
+
+build_most_fuel : build_of (codes "build" ∷ codes "--fuel" ∷ codes "1000000000000" ∷ codes "hello.lid" ∷ []) ≡ Some (build_with (codes "hello.lid") 1000000000000)
+build_most_fuel = refl
+
+build_too_much_fuel : build_of (codes "build" ∷ codes "--fuel" ∷ codes "1000000000001" ∷ codes "hello.lid" ∷ []) ≡ None
+build_too_much_fuel = refl
+
+build_signed_fuel : build_of (codes "build" ∷ codes "--fuel" ∷ codes "+5" ∷ codes "hello.lid" ∷ []) ≡ None
+build_signed_fuel = refl
+
+build_fuel_alone : build_of (codes "build" ∷ codes "--fuel" ∷ codes "5" ∷ []) ≡ None
+build_fuel_alone = refl
 
 absent : refusal_line (no_file (codes "a.lid") (codes "b.dylan")) ≡ codes "refused a.lid: 35 NoFile: b.dylan\n"
 unfolding digits

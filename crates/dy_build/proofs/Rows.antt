@@ -6,12 +6,13 @@ use Rattle.std.specs.declared.alloc.Global.{Global}
 use Rattle.std.proofs.lemmas.List.{length-map}
 use Rattle.dy_base.specs.declared.ids.GenericId.{GenericId}
 use Rattle.dy_term.specs.declared.term.Term.{Term, the_lemmas}
-use Rattle.dy_term.specs.declared.term.Term.TheVariants.{Call, Site}
-use Rattle.dy_term.specs.Core.{Core, call, site, seen, cores_of}
+use Rattle.dy_term.specs.declared.term.Term.TheVariants.{Call, Site, Cond}
+use Rattle.dy_term.specs.Core.{Core, call, site, seen, seen_pair, cores_of, choice_of}
 use Rattle.dy_term.proofs.Rows.{seen_items}
 use Rattle.dy_build.specs.declared.run.code.Instr.{Instr}
 use Rattle.dy_build.specs.declared.run.code.Instr.TheVariants.{Push, CallValue, Search}
-use Rattle.dy_build.specs.Code.{term_code, arguments_code, count_of}
+use Rattle.dy_build.specs.Code.{term_code, arguments_code, choice_code, count_of}
+use Rattle.dy_build.proofs.Emits.{seen_cond}
 
 pub seen_site : (generic : GenericId) (terms : Vec Term Global) → seen (Site generic terms) ≡ site generic (cores_of (map seen terms.items))
 seen_site generic terms = search (rules, the_lemmas, seen_items)
@@ -35,6 +36,9 @@ pub call_code : (function : Box Term Global) (terms : Vec Term Global) → term_
 call_code function terms =
     ap term_code (seen_call function terms)
     ∙ ap (λ (n : ℕ). term_code (seen function.value) ++ (Push ∷ (arguments_code (cores_of (map seen terms.items)) ++ CallValue n ∷ []))) (count_seen terms.items)
+
+pub cond_code : (branches : Vec (Term × Term) Global) (last : Box Term Global) → term_code (seen (Cond branches last)) ≡ choice_code (choice_of (map seen_pair branches.items) (seen last.value))
+cond_code branches last = ap term_code (seen_cond branches last)
 
 -- one more argument
 pub arguments_push : (terms : List Core) (term : Core) → arguments_code (cores_of (terms ++ term ∷ [])) ≡ arguments_code (cores_of terms) ++ (term_code term ++ Push ∷ [])

@@ -20,7 +20,7 @@ parsed text tokens forms (Some found) lexed within (derived, deep) e =
     rw (← same) (record { tokens = tokens; lexed = lexed; derived = derived; nested = within; deep = deep })
 
 checked : (text : List ℕ) (tokens : List Token) (forms : List FormTree) (test : Bool) → Lexes text tokens → nests_within nesting_limit tokens ≡ test → cond test (run begins tokens) None ≡ Some forms → IsText text forms
-checked text tokens forms true lexed within e = parsed text tokens forms (run begins tokens) lexed (nested nesting_limit tokens within) (sound tokens begins [] refl) e
+checked text tokens forms true lexed within e = parsed text tokens forms (run begins tokens) lexed (nested tokens nesting_limit within) (sound tokens begins [] refl) e
 checked text tokens forms false lexed within e = absurd cc
 
 tokens_read : (text : List ℕ) (forms : List FormTree) (o : Option (List Token)) → LexesIf text o → option_and_then forms_in o ≡ Some forms → IsText text forms
@@ -32,7 +32,7 @@ reads_only text forms e = tokens_read text forms (tokens_of text) (tokens_sound 
 
 pub reads_all : (text : List ℕ) (forms : List FormTree) → IsText text forms → forms_of text ≡ Some forms
 reads_all text forms h =
-    rw (tokens_complete text h.tokens h.lexed, nests nesting_limit h.tokens h.nested) (complete (file forms) h.tokens h.derived h.deep)
+    rw (tokens_complete text h.tokens h.lexed, nests h.tokens nesting_limit h.nested) (complete (file forms) h.tokens h.derived h.deep)
 
 pub one_reading : (text : List ℕ) (forms others : List FormTree) → IsText text forms → IsText text others → forms ≡ others
 one_reading text forms others h k = some_is forms others (sym (reads_all text forms h) ∙ reads_all text others k)

@@ -1,29 +1,24 @@
--- Turns of the loop over a text, and the words at its front.
-use Rattle.std.proofs.Common.{◌≡◌, ℕ, zero, suc, ◌+◌, ◌-◌, ◌<◌, List, [], ◌∷◌, ◌++◌, length, take, drop, get_or, Option, Some, None, option_map, ℤ, pos, refl, sym, ap, ◌∙◌, add-one, append_assoc, arith}
+-- Turns of the loop over a text, and the word at its front.
+use Rattle.std.proofs.Common.{◌≡◌, ℕ, zero, suc, ◌+◌, ◌-◌, ◌<◌, List, [], ◌∷◌, ◌++◌, length, take, drop, get_or, Option, Some, None, option_map, refl, sym, ap, ◌∙◌, add-one, append_assoc, arith}
 use Rattle.std.proofs.lemmas.List.{take_all}
 use Rattle.std.specs.List.{prefix_len}
 use Rattle.dy_build.specs.declared.text.token.Token.{Token}
-use Rattle.dy_build.specs.declared.text.lexing.Class.TheVariants.{Digit, Letter}
+use Rattle.dy_build.specs.declared.text.lexing.Class.{Class}
+use Rattle.dy_build.specs.declared.text.lexing.Class.TheVariants.{Letter}
 use Rattle.dy_build.specs.declared.text.lexing.Piece.{Piece}
 use Rattle.dy_build.specs.declared.text.lexing.Piece.TheVariants.{Taken}
-use Rattle.dy_build.specs.Tokens.{is_digit, in_name}
-use Rattle.dy_build.specs.Lexing.{class_of, number_of, number_piece, word_piece, piece_in, tokens_of, tokens_after, with_front}
+use Rattle.dy_build.specs.Tokens.{in_name}
+use Rattle.dy_build.specs.Lexing.{class_of, piece_of, word_token, piece_from, piece_in, tokens_of, tokens_after, with_front}
 
-pub digit_piece : (text : List ℕ) (more : ℕ) (value : Option ℤ) (result : Piece) → 0 < length text → Digit ≡ class_of (get_or text 0 0)
-    → more ≡ prefix_len is_digit (take (length text - 1) (drop 1 text)) → value ≡ option_map pos (number_of 0 (take (more + 1) text)) → result ≡ number_piece value more → result ≡ piece_in text
-digit_piece [] more value result some is len value_is e = absurd (omega arith)
-digit_piece (byte ∷ bytes) more value result some is len value_is e =
-    let all : take (length (byte ∷ bytes) - 1) bytes ≡ bytes = take_all (length (byte ∷ bytes) - 1) bytes (omega arith) in
-    let more_is : more ≡ prefix_len is_digit bytes = len ∙ ap (prefix_len is_digit) all in
-    e ∙ rw (value_is, add-one, more_is, ← is) refl
-
-pub letter_piece : (text : List ℕ) (more : ℕ) (result : Piece) → 0 < length text → Letter ≡ class_of (get_or text 0 0)
-    → more ≡ prefix_len in_name (take (length text - 1) (drop 1 text)) → result ≡ word_piece (take (more + 1) text) more → result ≡ piece_in text
-letter_piece [] more result some is len e = absurd (omega arith)
-letter_piece (byte ∷ bytes) more result some is len e =
+pub letter_piece : (text : List ℕ) (more : ℕ) (token : Option Token) (result : Piece) → 0 < length text → Letter ≡ class_of (get_or text 0 0)
+    → more ≡ prefix_len in_name (take (length text - 1) (drop 1 text)) → token ≡ word_token (take (more + 1) text) → result ≡ piece_of token more → result ≡ piece_in text
+letter_piece [] more token result some is len token_is e = absurd (omega arith)
+letter_piece (byte ∷ bytes) more token result some is len token_is e =
     let all : take (length (byte ∷ bytes) - 1) bytes ≡ bytes = take_all (length (byte ∷ bytes) - 1) bytes (omega arith) in
     let more_is : more ≡ prefix_len in_name bytes = len ∙ ap (prefix_len in_name) all in
-    e ∙ rw (add-one, more_is, ← is) refl
+    let word : take (more + 1) (byte ∷ bytes) ≡ byte ∷ take more bytes = rw add-one refl in
+    e ∙ ap (λ (o : Option Token). piece_of o more) (token_is ∙ ap word_token word)
+    ∙ ap (λ (n : ℕ). piece_of (word_token (byte ∷ take n bytes)) n) more_is ∙ ap (λ (c : Class). piece_from c byte bytes) is
 
 -- what is read already does not matter
 pub read_before : (read : ℕ) (text : List ℕ) → tokens_after read text ≡ tokens_of (drop read text)

@@ -10,7 +10,7 @@ use Rattle.dy_build.specs.declared.run.execute.RunEnd.{RunEnd}
 use Rattle.dy_build.specs.declared.run.execute.RunEnd.TheVariants as ends
 use Rattle.dy_build.specs.Refusals.{refusal_line}
 use Rattle.dy_build.specs.Lines.{file_fault_line, unhandled_line, out_of_fuel_line}
-use Rattle.dy_build.specs.Machine.{Final, Finished, Failed, OutOfFuel}
+use Rattle.dy_build.specs.Machine.{Final, Finished, Failed, OutOfFuel, Unfinished}
 use Rattle.dy_build.specs.Outcome.{Report}
 
 -- The line was sent and the status is the given one; or the sink or memory failed, and a front of it was sent.
@@ -23,6 +23,7 @@ abbrev pub final_report : Final → Report
 final_report (Finished state) = record { status = 0; out = concat state.pieces; err = [] }
 final_report (Failed error state) = record { status = 1; out = concat state.pieces; err = unhandled_line error }
 final_report (OutOfFuel state) = record { status = 7; out = concat state.pieces; err = out_of_fuel_line }
+final_report (Unfinished state) = record { status = 7; out = concat state.pieces; err = [] }
 
 -- what closing a run that ended so does to the error output
 abbrev pub Closes : RunEnd → Final → ℕ → Option (List ℕ) → Option (List ℕ) → Type 0

@@ -1,6 +1,6 @@
 -- What reading the sources answers.
-use Rattle.std.specs.Prelude.{◌≡◌, ℕ, Result, Ok, Err}
-use Rattle.dy_base.specs.declared.kind.Kind.TheVariants.{NoFile, Syntax}
+use Rattle.std.specs.Prelude.{◌≡◌, ◌⊎◌, ℕ, Result, Ok, Err}
+use Rattle.dy_base.specs.declared.kind.Kind.TheVariants.{NoFile, Syntax, Unbound}
 use Rattle.dy_io.specs.Causes.{Rose}
 use Rattle.dy_term.specs.declared.program.Program.{Program}
 use Rattle.dy_term.specs.Core.{seen_program}
@@ -36,7 +36,7 @@ Fails before now halts.Memory = Unit {0}
 
 -- No file is reported absent or failed.
 abbrev pub IsPlain : Halt → Type 0
-IsPlain (halts.Refused why) = why.kind ≡ Syntax
+IsPlain (halts.Refused why) = (why.kind ≡ Syntax) ⊎ (why.kind ≡ Unbound)
 IsPlain (halts.FileFault name) = ⊥
 IsPlain halts.Memory = Unit {0}
 

@@ -8,13 +8,17 @@ pub mod Parts
 pub mod Words
 pub mod Refusals
 pub mod Lines
+pub mod Names
 pub mod Core
 pub mod Values
+pub mod Dispatch
 pub mod Meaning
 pub mod Machine
 pub mod Code
+pub mod Jumps
 pub mod View
 pub mod Endings
+pub mod Evaluating
 pub mod Results
 pub mod Outcome
 pub mod Judged

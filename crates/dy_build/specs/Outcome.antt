@@ -7,12 +7,16 @@ use Rattle.dy_term.specs.Core.{CoreLibrary}
 use Rattle.dy_build.specs.declared.refused.Refused.{Refused}
 use Rattle.dy_build.specs.Forms.{FormTree}
 use Rattle.dy_build.specs.Layout.{file_limit, with_line_feeds, Lid, lid_of, is_library_file, body_of, source_name}
-use Rattle.dy_build.specs.Words.{build_of, usage_text}
-use Rattle.dy_build.specs.Refusals.{refusal_line, no_file, syntax}
+use Rattle.dy_build.specs.Words.{Build, build_of, usage_text}
+use Rattle.dy_build.specs.Refusals.{refusal_line, no_file, syntax, no_binding}
+use Rattle.dy_build.specs.declared.text.names.Finding.{Finding}
+use Rattle.dy_build.specs.declared.text.names.Finding.TheVariants.{Fine, Unbound, Unfit}
+use Rattle.dy_build.specs.Names.{names_found}
 use Rattle.dy_build.specs.Lines.{unhandled_line, out_of_fuel_line}
 use Rattle.dy_build.specs.Reading.{forms_of}
 use Rattle.dy_build.specs.Core.{program_of}
-use Rattle.dy_build.specs.Meaning.{Outcome, Gave, Ended, Spent, program_meaning}
+use Rattle.dy_build.specs.Meaning.{Outcome, Gave, Exits, Ended, Spent, program_meaning}
+use Rattle.dy_build.specs.Machine.{no_block}
 
 -- a file: absent, longer than a file may be, or a text whose lines end with LF
 pub data Source : Type 0 where
@@ -44,9 +48,15 @@ pub data Verdict : Type 0 where
   refused : (why : Refused) → Verdict
   accepted : (program : List CoreLibrary) → Verdict
 
+-- by what is found of the names of the forms
+abbrev pub judged_names : List ℕ → List ℕ → List FormTree → Finding → Verdict
+judged_names library file forms Fine = accepted (program_of library forms)
+judged_names library file forms (Unbound name) = refused (no_binding library file name)
+judged_names library file forms Unfit = refused (syntax library file)
+
 abbrev pub judged_forms : List ℕ → List ℕ → Option (List FormTree) → Verdict
 judged_forms library file None = refused (syntax library file)
-judged_forms library file (Some forms) = accepted (program_of library forms)
+judged_forms library file (Some forms) = judged_names library file forms (names_found forms)
 
 -- both files are there: the first is to define the library, and the second holds its forms
 abbrev pub judged_texts : List ℕ → List ℕ → List ℕ → Source → Source → Verdict
@@ -80,10 +90,6 @@ judged_lid files lid (text bytes) = judged_parts files lid (lid_of bytes)
 abbrev pub verdict : FileMap → List ℕ → Verdict
 verdict files lid = judged_lid files lid (source_at files lid)
 
--- The fuel where the words name none.
-abbrev pub default_fuel : ℕ
-default_fuel = 10000000
-
 -- the exit status, and what is sent to the output and to the error output
 pub record Report : Type 0 where
   pub status : ℕ
@@ -92,19 +98,21 @@ pub record Report : Type 0 where
 
 abbrev pub run_report : Outcome → Report
 run_report (Gave values state) = record { status = 0; out = concat state.pieces; err = [] }
+run_report (Exits tag values state) = record { status = 1; out = concat state.pieces; err = unhandled_line no_block }
 run_report (Ended error state) = record { status = 1; out = concat state.pieces; err = unhandled_line error }
 run_report (Spent state) = record { status = 7; out = concat state.pieces; err = out_of_fuel_line }
 
-abbrev pub build_report : Verdict → Report
-build_report (refused why) = record { status = 2; out = []; err = refusal_line why }
-build_report (accepted program) = run_report (program_meaning program default_fuel)
+-- a program is run with so many units of fuel
+abbrev pub build_report : ℕ → Verdict → Report
+build_report fuel (refused why) = record { status = 2; out = []; err = refusal_line why }
+build_report fuel (accepted program) = run_report (program_meaning program fuel)
 
 abbrev pub usage_report : Report
 usage_report = record { status = 3; out = []; err = usage_text }
 
-abbrev pub command_report : Option (List ℕ) → FileMap → Report
+abbrev pub command_report : Option Build → FileMap → Report
 command_report None files = usage_report
-command_report (Some lid) files = build_report (verdict files lid)
+command_report (Some command) files = build_report command.fuel (verdict files command.lid)
 
 -- what a command comes to, by its words and what the files hold; no command of today writes files
 abbrev pub outcome : List (List ℕ) → FileMap → Report

@@ -3,6 +3,8 @@ use Rattle.std.specs.Prelude.{ℕ, List, Option, option_map}
 use Rattle.std.specs.Borrow.{Bor}
 use Rattle.dy_build.specs.Layout.{Lid}
 use Rattle.dy_build.specs.declared.layout.lid.LidParts.{LidParts}
+use Rattle.dy_build.specs.declared.words.BuildCommand.{BuildCommand}
+use Rattle.dy_build.specs.Words.{Build, build_with}
 
 -- the bytes of a part of a text
 abbrev pub seen_bytes : Option (Bor (List ℕ)) → Option (List ℕ)
@@ -14,3 +16,7 @@ seen_parts parts = record { library = parts.library.now; first = parts.first.now
 
 abbrev pub seen_lid : Option LidParts → Option Lid
 seen_lid parts = option_map seen_parts parts
+
+-- what `build` is to do
+abbrev pub seen_build : BuildCommand → Build
+seen_build command = build_with command.lid.now command.fuel

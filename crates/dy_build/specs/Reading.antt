@@ -2,13 +2,19 @@
 use Rattle.std.specs.Prelude.{ℕ, zero, suc, ◌+◌, ◌-◌, max, Bool, true, false, nat_lt, if◌then◌else◌, List, [], ◌∷◌, Option, Some, None, option_map, option_and_then}
 use Rattle.dy_build.specs.declared.text.form.Operator.{Operator}
 use Rattle.dy_build.specs.declared.text.form.Operator.TheVariants.{Add, Subtract, Multiply}
+use Rattle.dy_build.specs.declared.text.form.Comparison.{Comparison}
+use Rattle.dy_build.specs.declared.text.form.Comparison.TheVariants as comparisons
 use Rattle.dy_build.specs.declared.text.token.Token.{Token}
-use Rattle.dy_build.specs.declared.text.token.Token.TheVariants.{FormatOut, Directive, Number, Open, Close, Comma, Semicolon, Plus, Minus, Times}
-use Rattle.dy_build.specs.declared.text.parsing.Deep.{Deep}
-use Rattle.dy_build.specs.declared.text.parsing.Place.{Place, Printed, Bracketed', Multiplied', Operated'}
-use Rattle.dy_build.specs.declared.text.parsing.State as code
-use Rattle.dy_build.specs.Forms.{Tree, number, operation, FormTree, print, seen, seen_form}
-use Rattle.dy_build.specs.Grammar.{nesting_limit}
+use Rattle.dy_build.specs.declared.text.token.Token.TheVariants.{FormatOut, Directive, Define, Method, End, If, Else, Name, Number, Open, Close, Comma, Semicolon, Plus, Minus, Times, Less, Equal}
+use Rattle.dy_build.specs.declared.text.place.Deep.{Deep}
+use Rattle.dy_build.specs.declared.text.place.Test.{Test}
+use Rattle.dy_build.specs.declared.text.place.Place.{Place, Printed, Body, Bracketed', Argument', TestLeft', TestRight', Chosen', Other', Multiplied', Operated'}
+use Rattle.dy_build.specs.declared.text.place.Part.{Part as Held}
+use Rattle.dy_build.specs.declared.text.place.State as code
+use Rattle.dy_build.specs.Forms.{Tree, number, variable, operation, call, choice, FormTree, print, method, seen, seen_form}
+use Rattle.dy_build.specs.declared.text.token.Side.{Side}
+use Rattle.dy_build.specs.declared.text.token.Side.TheVariants.{Opens, Closes, Neither}
+use Rattle.dy_build.specs.Grammar.{side_of, nesting_limit}
 use Rattle.dy_build.specs.Lexing.{tokens_of}
 
 -- a tree and its depth
@@ -16,10 +22,22 @@ pub record DeepTree : Type 0 where
   pub tree : Tree
   pub deep : ℕ
 
+-- what an `if` asks
+pub record Asked : Type 0 where
+  pub comparison : Comparison
+  pub left : DeepTree
+  pub right : DeepTree
+
 -- what the tree that is read next will be a part of
 pub data Outer : Type 0 where
   printed : Outer
+  body_of : (name : List ℕ) (parameter : List ℕ) → Outer
   bracketed : (outer : Outer) → Outer
+  argument_of : (name : List ℕ) (outer : Outer) → Outer
+  test_left : (outer : Outer) → Outer
+  test_right : (comparison : Comparison) (left : DeepTree) (outer : Outer) → Outer
+  then_part : (asked : Asked) (outer : Outer) → Outer
+  else_part : (asked : Asked) (chosen : DeepTree) (outer : Outer) → Outer
   multiplied : (left : DeepTree) (outer : Outer) → Outer
   operated : (operator : Operator) (left : DeepTree) (outer : Outer) → Outer
 
@@ -30,80 +48,150 @@ pub data Reader : Type 0 where
   named : Reader
   opened : Reader
   directed : Reader
+  -- the first tokens of a definition were read
+  defines : Reader
+  methods : Reader
+  titled : (name : List ℕ) → Reader
+  listed : (name : List ℕ) → Reader
+  filled : (name : List ℕ) (parameter : List ℕ) → Reader
   -- a leaf comes
   wants : (outer : Outer) → Reader
+  -- `if` was read
+  asks : (outer : Outer) → Reader
+  -- a name was read, which is a leaf or is called
+  called : (name : List ℕ) (outer : Outer) → Reader
   -- a product was read
   has : (product : DeepTree) (outer : Outer) → Reader
   -- a form was read
   formed : (form : FormTree) → Reader
 
--- an operation, unless it is too deep for a form
-abbrev pub joined : Operator → DeepTree → DeepTree → Option DeepTree
-joined operator left right =
-    if nat_lt (max left.deep right.deep) (nesting_limit - 1)
-    then Some (record { tree = operation operator left.tree right.tree; deep = max left.deep right.deep + 1 })
-    else None
+-- a tree above parts of which the deepest is so deep, unless it is too deep for a form
+abbrev pub above : ℕ → Tree → Option DeepTree
+above deepest tree = if nat_lt deepest (nesting_limit - 1) then Some (record { tree = tree; deep = deepest + 1 }) else None
 
-abbrev pub multiplies : Outer → Option DeepTree → Option Reader
-multiplies outer product = option_map (λ tree. has tree outer) product
+abbrev pub joined : Operator → DeepTree → DeepTree → Option DeepTree
+joined operator left right = above (max left.deep right.deep) (operation operator left.tree right.tree)
+
+abbrev pub call_with : List ℕ → DeepTree → Option DeepTree
+call_with name argument = above argument.deep (call name argument.tree)
+
+abbrev pub choice_of : Asked → DeepTree → DeepTree → Option DeepTree
+choice_of asked chosen other =
+    above (max (max asked.left.deep asked.right.deep + 1) (max chosen.deep other.deep)) (choice asked.comparison asked.left.tree asked.right.tree chosen.tree other.tree)
+
+-- a tree, and what it will be a part of
+abbrev pub Part : Type 0
+Part = DeepTree × Outer
+
+abbrev pub with_outer : Outer → Option DeepTree → Option Part
+with_outer outer tree = option_map (λ whole. (whole, outer)) tree
+
+-- the product that ends with this leaf
+abbrev pub product_of : DeepTree → Outer → Option Part
+product_of leaf (multiplied left outer) = with_outer outer (joined Multiply left leaf)
+product_of leaf outer = Some (leaf, outer)
+
+-- the sum that ends with this product
+abbrev pub sum_of : DeepTree → Outer → Option Part
+sum_of product (operated operator left outer) = with_outer outer (joined operator left product)
+sum_of product outer = Some (product, outer)
 
 -- a leaf was read
 abbrev pub after_leaf : DeepTree → Outer → Option Reader
-after_leaf leaf printed = Some (has leaf printed)
-after_leaf leaf (bracketed outer) = Some (has leaf (bracketed outer))
-after_leaf leaf (multiplied left outer) = multiplies outer (joined Multiply left leaf)
-after_leaf leaf (operated operator left outer) = Some (has leaf (operated operator left outer))
+after_leaf leaf outer = option_map (λ part. has part.0 part.1) (product_of leaf outer)
 
--- the sum that ends with this product
-abbrev pub sum_of : DeepTree → Outer → Option DeepTree
-sum_of product printed = Some product
-sum_of product (bracketed outer) = Some product
-sum_of product (multiplied left outer) = Some product
-sum_of product (operated operator left outer) = joined operator left product
+abbrev pub if_leaf_fits : Outer → Option DeepTree → Option Reader
+if_leaf_fits outer leaf = option_and_then (λ tree. after_leaf tree outer) leaf
 
--- and what it will be a part of
-abbrev pub outer_of : Outer → Outer
-outer_of printed = printed
-outer_of (bracketed outer) = bracketed outer
-outer_of (multiplied left outer) = multiplied left outer
-outer_of (operated operator left outer) = outer
-
+-- a bracket behind a sum was read
 abbrev pub closed : DeepTree → Outer → Option Reader
 closed sum printed = Some (formed (print sum.tree))
 closed sum (bracketed outer) = after_leaf sum outer
-closed sum (multiplied left outer) = None
-closed sum (operated operator left outer) = None
+closed sum (argument_of name outer) = if_leaf_fits outer (call_with name sum)
+closed sum (test_right comparison left outer) = Some (wants (then_part (record { comparison = comparison; left = left; right = sum }) outer))
+closed sum _ = None
 
-abbrev pub after_sum : Token → Outer → DeepTree → Option Reader
-after_sum Plus outer sum = Some (wants (operated Add sum outer))
-after_sum Minus outer sum = Some (wants (operated Subtract sum outer))
-after_sum Close outer sum = closed sum outer
-after_sum _ outer sum = None
+-- a comparison behind a sum was read
+abbrev pub compared : Comparison → DeepTree → Outer → Option Reader
+compared comparison sum (test_left outer) = Some (wants (test_right comparison sum outer))
+compared comparison sum _ = None
 
-abbrev pub after_product : DeepTree → Outer → Token → Option Reader
-after_product product outer Times = Some (wants (multiplied product outer))
-after_product product outer token = option_and_then (after_sum token (outer_of outer)) (sum_of product outer)
+-- `else` behind a sum was read
+abbrev pub split : DeepTree → Outer → Option Reader
+split sum (then_part asked outer) = Some (wants (else_part asked sum outer))
+split sum _ = None
+
+-- `end` behind a sum was read
+abbrev pub ended : DeepTree → Outer → Option Reader
+ended sum (body_of name parameter) = Some (formed (method name parameter sum.tree))
+ended sum (else_part asked chosen outer) = if_leaf_fits outer (choice_of asked chosen sum)
+ended sum _ = None
+
+abbrev pub after_sum : Token → Part → Option Reader
+after_sum Plus part = Some (wants (operated Add part.0 part.1))
+after_sum Minus part = Some (wants (operated Subtract part.0 part.1))
+after_sum Close part = closed part.0 part.1
+after_sum Less part = compared comparisons.Less part.0 part.1
+after_sum Equal part = compared comparisons.Equal part.0 part.1
+after_sum Else part = split part.0 part.1
+after_sum End part = ended part.0 part.1
+after_sum _ part = None
+
+abbrev pub after_product : Token → Part → Option Reader
+after_product Times part = Some (wants (multiplied part.0 part.1))
+after_product token part = option_and_then (after_sum token) (sum_of part.0 part.1)
 
 abbrev pub at_leaf : Outer → Token → Option Reader
 at_leaf outer (Number value) = after_leaf (record { tree = number value; deep = 1 }) outer
+at_leaf outer (Name name) = Some (called name outer)
 at_leaf outer Open = Some (wants (bracketed outer))
+at_leaf outer If = Some (asks outer)
 at_leaf outer _ = None
+
+abbrev pub after_if : Outer → Token → Option Reader
+after_if outer Open = Some (wants (test_left outer))
+after_if outer _ = None
+
+abbrev pub after_name : List ℕ → Outer → Token → Option Reader
+after_name name outer Open = Some (wants (argument_of name outer))
+after_name name outer token = option_and_then (after_product token) (product_of (record { tree = variable name; deep = 1 }) outer)
 
 abbrev pub at_form : Token → Option Reader
 at_form FormatOut = Some named
+at_form Define = Some defines
 at_form _ = None
 
-abbrev pub after_name : Token → Option Reader
-after_name Open = Some opened
-after_name _ = None
+abbrev pub after_named : Token → Option Reader
+after_named Open = Some opened
+after_named _ = None
 
-abbrev pub after_open : Token → Option Reader
-after_open Directive = Some directed
-after_open _ = None
+abbrev pub after_opened : Token → Option Reader
+after_opened Directive = Some directed
+after_opened _ = None
 
-abbrev pub after_directive : Token → Option Reader
-after_directive Comma = Some (wants printed)
-after_directive _ = None
+abbrev pub after_directed : Token → Option Reader
+after_directed Comma = Some (wants printed)
+after_directed _ = None
+
+abbrev pub after_defines : Token → Option Reader
+after_defines Method = Some methods
+after_defines _ = None
+
+abbrev pub after_methods : Token → Option Reader
+after_methods (Name name) = Some (titled name)
+after_methods _ = None
+
+abbrev pub after_titled : List ℕ → Token → Option Reader
+after_titled name Open = Some (listed name)
+after_titled name _ = None
+
+abbrev pub after_listed : List ℕ → Token → Option Reader
+after_listed name (Name parameter) = Some (filled name parameter)
+after_listed name _ = None
+
+abbrev pub after_filled : List ℕ → List ℕ → Token → Option Reader
+after_filled name parameter Close = Some (wants (body_of name parameter))
+after_filled name parameter _ = None
 
 abbrev pub after_form : Token → Option Reader
 after_form Semicolon = Some begins
@@ -111,11 +199,18 @@ after_form _ = None
 
 abbrev pub step : Reader → Token → Option Reader
 step begins token = at_form token
-step named token = after_name token
-step opened token = after_open token
-step directed token = after_directive token
+step named token = after_named token
+step opened token = after_opened token
+step directed token = after_directed token
+step defines token = after_defines token
+step methods token = after_methods token
+step (titled name) token = after_titled name token
+step (listed name) token = after_listed name token
+step (filled name parameter) token = after_filled name parameter token
 step (wants outer) token = at_leaf outer token
-step (has product outer) token = after_product product outer token
+step (asks outer) token = after_if outer token
+step (called name outer) token = after_name name outer token
+step (has product outer) token = after_product token (product, outer)
 step (formed form) token = after_form token
 
 -- nothing, or a form that was read whole, and the forms after it
@@ -123,33 +218,33 @@ abbrev pub with_form : Reader → Option (List FormTree) → Option (List FormTr
 with_form (formed form) forms = option_map (λ more. form ∷ more) forms
 with_form _ forms = forms
 
-abbrev pub ended : Reader → Option (List FormTree)
-ended begins = Some []
-ended (formed form) = Some (form ∷ [])
-ended _ = None
+abbrev pub at_end : Reader → Option (List FormTree)
+at_end begins = Some []
+at_end (formed form) = Some (form ∷ [])
+at_end _ = None
 
 -- the forms of the tokens that are left
 abbrev pub run : Reader → List Token → Option (List FormTree)
-run reader [] = ended reader
+run reader [] = at_end reader
 run reader (token ∷ tokens) = with_form reader (option_and_then (λ next. run next tokens) (step reader token))
 
 abbrev pub run_on : Option Reader → List Token → Option (List FormTree)
 run_on reader tokens = option_and_then (λ next. run next tokens) reader
 
--- how many more brackets may be opened
-abbrev pub room_after : ℕ → Token → Option ℕ
-room_after zero Open = None
-room_after (suc room) Open = Some room
-room_after room Close = Some (suc room)
-room_after room _ = Some room
+-- how many more groups may be opened
+abbrev pub room_after : Side → ℕ → Option ℕ
+room_after Opens zero = None
+room_after Opens (suc room) = Some room
+room_after Closes room = Some (suc room)
+room_after Neither room = Some room
 
 abbrev pub goes_on : Option ℕ → (ℕ → Bool) → Bool
-goes_on None test = false
-goes_on (Some room) test = test room
+goes_on None more = false
+goes_on (Some room) more = more room
 
 abbrev pub nests_within : ℕ → List Token → Bool
 nests_within room [] = true
-nests_within room (token ∷ tokens) = goes_on (room_after room token) (λ left. nests_within left tokens)
+nests_within room (token ∷ tokens) = goes_on (room_after (side_of token) room) (λ left. nests_within left tokens)
 
 abbrev pub forms_in : List Token → Option (List FormTree)
 forms_in tokens = if nests_within nesting_limit tokens then run begins tokens else None
@@ -159,11 +254,20 @@ abbrev pub forms_of : List ℕ → Option (List FormTree)
 forms_of text = option_and_then forms_in (tokens_of text)
 
 abbrev pub seen_deep : Deep → DeepTree
-seen_deep tree = record { tree = seen tree.tree; deep = tree.deep }
+seen_deep tree = record { tree = seen tree.tree.value; deep = tree.deep }
+
+abbrev pub seen_test : Test → Asked
+seen_test test = record { comparison = test.comparison; left = seen_deep test.left; right = seen_deep test.right }
 
 abbrev pub seen_outer : Place → Outer
 seen_outer Printed = printed
+seen_outer (Body name parameter) = body_of name parameter
 seen_outer (Bracketed' p outer) = bracketed (seen_outer outer)
+seen_outer (Argument' name p outer) = argument_of name (seen_outer outer)
+seen_outer (TestLeft' p outer) = test_left (seen_outer outer)
+seen_outer (TestRight' comparison left p outer) = test_right comparison (seen_deep left) (seen_outer outer)
+seen_outer (Chosen' test p outer) = then_part (seen_test test) (seen_outer outer)
+seen_outer (Other' test chosen p outer) = else_part (seen_test test) (seen_deep chosen) (seen_outer outer)
 seen_outer (Multiplied' left p outer) = multiplied (seen_deep left) (seen_outer outer)
 seen_outer (Operated' operator left p outer) = operated operator (seen_deep left) (seen_outer outer)
 
@@ -172,6 +276,16 @@ seen_reader code.TheVariants.Begins = begins
 seen_reader code.TheVariants.Named = named
 seen_reader code.TheVariants.Opened = opened
 seen_reader code.TheVariants.Directed = directed
+seen_reader code.TheVariants.Defines = defines
+seen_reader code.TheVariants.Methods = methods
+seen_reader (code.TheVariants.Titled name) = titled name
+seen_reader (code.TheVariants.Listed name) = listed name
+seen_reader (code.TheVariants.Filled name parameter) = filled name parameter
 seen_reader (code.TheVariants.Wants outer) = wants (seen_outer outer)
+seen_reader (code.TheVariants.Asks outer) = asks (seen_outer outer)
+seen_reader (code.TheVariants.Called name outer) = called name (seen_outer outer)
 seen_reader (code.TheVariants.Has product outer) = has (seen_deep product) (seen_outer outer)
 seen_reader (code.TheVariants.Formed form) = formed (seen_form form)
+
+abbrev pub seen_part : Held → Part
+seen_part part = (seen_deep part.tree, seen_outer part.place)

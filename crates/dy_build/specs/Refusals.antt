@@ -2,7 +2,7 @@
 use Rattle.std.specs.Prelude.{ℕ, List, [], ◌∷◌, ◌++◌, Option, Some, None, codes, decimal, if◌then◌else◌}
 use Rattle.dy_base.specs.Kinds.{code_of, name_of}
 use Rattle.dy_base.specs.declared.kind.Kind.{Kind}
-use Rattle.dy_base.specs.declared.kind.Kind.TheVariants.{NoFile, Syntax}
+use Rattle.dy_base.specs.declared.kind.Kind.TheVariants.{NoFile, Syntax, Unbound}
 use Rattle.dy_build.specs.Layout.{is_same}
 use Rattle.dy_build.specs.declared.refused.Position.{Position}
 use Rattle.dy_build.specs.declared.refused.Refused.{Refused}
@@ -37,3 +37,8 @@ no_file subject file =
 abbrev pub syntax : List ℕ → List ℕ → Refused
 syntax subject file =
     record { kind = Syntax; subject = subject; position = Some (record { file = file; line = 1; column = 1 }); shown = [] }
+
+-- A name has no binding. No place of it is known.
+abbrev pub no_binding : List ℕ → List ℕ → List ℕ → Refused
+no_binding subject file name =
+    record { kind = Unbound; subject = subject; position = Some (record { file = file; line = 1; column = 1 }); shown = name ∷ [] }

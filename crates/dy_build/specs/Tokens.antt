@@ -1,7 +1,8 @@
 -- Which tokens a text consists of (DRM 2, appendix A). It is stated of texts whose lines end with LF.
 use Rattle.std.specs.Prelude.{◌≡◌, ℕ, ◌+◌, ◌-◌, ◌*◌, ◌^◌, ◌<◌, Bool, true, false, ◌&&◌, ◌||◌, ◌==◌, nat_le, List, [], ◌∷◌, ◌++◌, length, codes, pos, fold}
 use Rattle.dy_build.specs.declared.text.token.Token.{Token}
-use Rattle.dy_build.specs.declared.text.token.Token.TheVariants.{FormatOut, Directive, Number, Open, Close, Comma, Semicolon, Plus, Minus, Times}
+use Rattle.dy_build.specs.declared.text.token.Token.TheVariants.{FormatOut, Directive, Define, Method, End, If, Else, Name, Number, Open, Close, Comma, Semicolon, Plus, Minus, Times, Less, Equal}
+use Rattle.dy_build.specs.Layout.{is_name}
 
 abbrev pub is_between : ℕ → ℕ → ℕ → Bool
 is_between low high byte = nat_le low byte && nat_le byte high
@@ -20,6 +21,10 @@ is_graphic byte =
 
 abbrev pub in_name : ℕ → Bool
 in_name byte = is_letter byte || is_digit byte || is_graphic byte
+
+-- a letter or `_`, which no number ends before
+abbrev pub is_word_byte : ℕ → Bool
+is_word_byte byte = is_letter byte || byte == 95
 
 abbrev pub is_blank : ℕ → Bool
 is_blank byte = byte == 32 || byte == 10
@@ -44,6 +49,12 @@ pub record IsNumber (value : ℕ) (bytes : List ℕ) : Type 0 where
 abbrev pub Spells : Token → List ℕ → Type 0
 Spells FormatOut bytes = bytes ≡ codes "format-out"
 Spells Directive bytes = bytes ≡ codes "\"%d\\n\""
+Spells Define bytes = bytes ≡ codes "define"
+Spells Method bytes = bytes ≡ codes "method"
+Spells End bytes = bytes ≡ codes "end"
+Spells If bytes = bytes ≡ codes "if"
+Spells Else bytes = bytes ≡ codes "else"
+Spells (Name name) bytes = (bytes ≡ name) × (is_name name ≡ true)
 Spells (Number z) bytes = (value : ℕ) × (z ≡ pos value) × IsNumber value bytes
 Spells Open bytes = bytes ≡ codes "("
 Spells Close bytes = bytes ≡ codes ")"
@@ -52,16 +63,26 @@ Spells Semicolon bytes = bytes ≡ codes ";"
 Spells Plus bytes = bytes ≡ codes "+"
 Spells Minus bytes = bytes ≡ codes "-"
 Spells Times bytes = bytes ≡ codes "*"
+Spells Less bytes = bytes ≡ codes "<"
+Spells Equal bytes = bytes ≡ codes "=="
 
 -- the text does not begin with such a byte
 abbrev pub BeginsWithout : (ℕ → Bool) → List ℕ → Type 0
 BeginsWithout passes [] = Unit {0}
 BeginsWithout passes (byte ∷ bytes) = passes byte ≡ false
 
--- A name and a number are as long as they can be.
+-- A name and a number are as long as they can be. A letter behind digits, `*` or `<` makes another piece of them.
 abbrev pub EndsBefore : Token → List ℕ → Type 0
 EndsBefore FormatOut rest = BeginsWithout in_name rest
-EndsBefore (Number z) rest = BeginsWithout is_digit rest
+EndsBefore Define rest = BeginsWithout in_name rest
+EndsBefore Method rest = BeginsWithout in_name rest
+EndsBefore End rest = BeginsWithout in_name rest
+EndsBefore If rest = BeginsWithout in_name rest
+EndsBefore Else rest = BeginsWithout in_name rest
+EndsBefore (Name name) rest = BeginsWithout in_name rest
+EndsBefore (Number z) rest = BeginsWithout is_digit rest × BeginsWithout is_word_byte rest
+EndsBefore Times rest = BeginsWithout is_letter rest
+EndsBefore Less rest = BeginsWithout is_letter rest
 EndsBefore _ rest = Unit {0}
 
 -- the text is these tokens, with blanks between them

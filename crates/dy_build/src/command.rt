@@ -8,7 +8,7 @@ ghost use Rattle.dy_build.specs.Meaning.{program_meaning};
 ghost use Rattle.dy_build.specs.Machine.{Final};
 ghost use Rattle.dy_build.specs.Endings.{EndsAs};
 ghost use Rattle.dy_build.specs.Refusals.{refusal_line};
-ghost use Rattle.dy_build.specs.Outcome.{default_fuel, run_report, build_report, verdict, usage_report, outcome};
+ghost use Rattle.dy_build.specs.Outcome.{run_report, build_report, verdict, usage_report, outcome};
 ghost use Rattle.dy_build.specs.Command.{PutsLine, Closes, Finishes, Refuses, TellsFault, Stood, Done, SentFront, outputs};
 ghost use Rattle.dy_build.specs.Words.{build_of};
 ghost use Rattle.dy_build.specs.Layout.{Lid, lid_of, IsLid};
@@ -22,13 +22,10 @@ use crate::refused::{Refused, file_fault_line, out_of_fuel_line, refusal_line, u
 use crate::run::execute::{RunEnd, run};
 use crate::run::lower::lower;
 use crate::source::{Halt, read_program};
-use crate::words::{build_words, usage};
+use crate::words::{BuildCommand, build_words, usage};
 use dy_io::{Files, Sink, WriteFail};
 use dy_term::Program;
 use std::alloc::Global;
-
-/// The fuel where the words name none.
-pub(crate) const DEFAULT_FUEL: u64 = 10_000_000;
 
 /// Sends the last line of a command, and answers the status: the given one, or that of the failure.
 fn put_line<E: Sink>(err: &mut E, line: &[u8], status: u8) -> u8
@@ -61,16 +58,22 @@ fn finish<E: Sink>(alloc: Global, end: RunEnd, err: &mut E) -> u8
     }
 }
 
-/// Lowers and runs a program.
-fn run_program<O: Sink, E: Sink>(alloc: Global, program: &Program, out: &mut O, err: &mut E) -> u8
-    ensures finishes { Finishes (run_report (program_meaning (seen_program program.now) default_fuel)) result (outputs (O.contents out.old) (O.contents out.new) (E.contents err.old) (E.contents err.new)) }
+/// Lowers a program, and runs it with so many units of fuel.
+fn run_program<O: Sink, E: Sink>(
+    alloc: Global,
+    program: &Program,
+    fuel: u64,
+    out: &mut O,
+    err: &mut E,
+) -> u8
+    ensures finishes { Finishes (run_report (program_meaning (seen_program program.now) fuel)) result (outputs (O.contents out.old) (O.contents out.new) (E.contents err.old) (E.contents err.new)) }
     ensures fault { result ≡ 5 → Rose (O.faults out.old) (O.faults out.new) ⊎ Rose (E.faults err.old) (E.faults err.new) }
     ensures out_faults { O.faults out.old ≤ O.faults out.new }
     ensures err_faults { E.faults err.old ≤ E.faults err.new }
 {
     match lower(alloc, program) {
         Ok(code) => {
-            let end = run(alloc, &code, DEFAULT_FUEL, out);
+            let end = run(alloc, &code, fuel, out);
             finish(alloc, end, err)
         }
         Err(_) => 6,
@@ -103,15 +106,16 @@ fn report_fault<E: Sink>(alloc: Global, name: &[u8], err: &mut E) -> u8
     }
 }
 
-/// Builds and runs the library of a LID file.
+/// Builds the library of a LID file, and runs it with so many units of fuel.
 fn build<F: Files, O: Sink, E: Sink>(
     alloc: Global,
     lid: &str,
+    fuel: u64,
     files: &mut F,
     out: &mut O,
     err: &mut E,
 ) -> u8
-    ensures finishes { (held : FileMap) → F.contents files.old ≡ Some held → (result ≡ 4) ⊎ Finishes (build_report (verdict held lid.now)) result (outputs (O.contents out.old) (O.contents out.new) (E.contents err.old) (E.contents err.new)) }
+    ensures finishes { (held : FileMap) → F.contents files.old ≡ Some held → (result ≡ 4) ⊎ Finishes (build_report fuel (verdict held lid.now)) result (outputs (O.contents out.old) (O.contents out.new) (E.contents err.old) (E.contents err.new)) }
     ensures refused { result ≡ 2 → Refuses (F.misses files.old) (F.misses files.new) (outputs (O.contents out.old) (O.contents out.new) (E.contents err.old) (E.contents err.new)) }
     ensures accepted { result ≢ 3 }
     ensures failed { result ≡ 4 → Rose (F.faults files.old) (F.faults files.new) }
@@ -125,15 +129,17 @@ fn build<F: Files, O: Sink, E: Sink>(
     ensures err_faults { E.faults err.old ≤ E.faults err.new }
 {
     match read_program(alloc, files, lid) {
-        Ok(program) => run_program(alloc, &program, out, err),
+        Ok(program) => run_program(alloc, &program, fuel, out, err),
         Err(Halt::Refused(why)) => refuse(alloc, &why, err),
         Err(Halt::FileFault(name)) => report_fault(alloc, name.bytes(), err),
         Err(Halt::Memory) => 6,
     }
 }
 
-/// Does a command: `build LID` compiles, links and runs the library of a LID file. The output of
-/// the program goes to `out`, and the last line of the command, if it has one, to `err`.
+/// Does a command: `build LID` and `build --fuel N LID` compile, link and run the library of a LID
+/// file, with N units of fuel, from 0 to 1,000,000,000,000 in one to thirteen digits, or with
+/// 10,000,000. The output of the program goes to `out`, and the last line of the command, if it has
+/// one, to `err`.
 ///
 /// | status | comes | on `err` |
 /// |---|---|---|
@@ -144,7 +150,7 @@ fn build<F: Files, O: Sink, E: Sink>(
 /// | 4 | a file failed | `file fault: NAME` |
 /// | 5 | a sink failed | nothing more |
 /// | 6 | memory ran out | nothing more |
-/// | 7 | the fuel of 10,000,000 units ended first | `out of fuel` |
+/// | 7 | the program spent its fuel and wanted one unit more | `out of fuel` |
 ///
 /// After 5 and 6 a front of the whole output was sent.
 pub fn run_words<F: Files, O: Sink, E: Sink>(
@@ -182,7 +188,7 @@ pub fn run_words<F: Files, O: Sink, E: Sink>(
     ensures texts { (text : List ℕ) (forms : List FormTree) → (forms_of text ≡ Some forms) ↔ IsText text forms }
 {
     match build_words(words) {
-        Some(lid) => build(alloc, lid, files, out, err),
+        Some(BuildCommand { fuel, lid }) => build(alloc, lid, fuel, files, out, err),
         None => put_line(err, usage(), 3),
     }
 }

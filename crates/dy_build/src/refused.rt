@@ -1,7 +1,7 @@
 //! What a refusal shows, and the other lines of a command.
 
 ghost use Rattle.std.specs.Prelude.{◌≡◌, [], ◌∷◌, ◌++◌, IfOk, OnOk, decimal};
-ghost use Rattle.dy_build.specs.Refusals.{kind_text, position_text, spaced, shown_text, refusal_line, no_file, syntax};
+ghost use Rattle.dy_build.specs.Refusals.{kind_text, position_text, spaced, shown_text, refusal_line, no_file, syntax, no_binding};
 ghost use Rattle.dy_build.specs.Lines.{file_fault_line, unhandled_line, out_of_fuel_line};
 
 use dy_base::{Items, Kind, Text};
@@ -42,6 +42,29 @@ impl Refused {
             kind: Kind::NoFile,
             subject: Text::of(alloc, subject)?,
             position: None,
+            shown,
+        })
+    }
+
+    /// A name has no binding, and no place of it is known.
+    pub(crate) fn no_binding(
+        alloc: Global,
+        subject: &[u8],
+        file: &[u8],
+        name: Text,
+    ) -> Result<Refused, AllocError>
+        ensures { IfOk result (λ refused. refused ≡ no_binding subject.now file.now name) }
+    {
+        let mut shown = Items::new(alloc);
+        shown.push(name)?;
+        Ok(Refused {
+            kind: Kind::Unbound,
+            subject: Text::of(alloc, subject)?,
+            position: Some(Position {
+                file: Text::of(alloc, file)?,
+                line: 1,
+                column: 1,
+            }),
             shown,
         })
     }

@@ -1,6 +1,7 @@
 //! The sources of a library, read and judged.
 
-ghost use Rattle.std.specs.Prelude.{◌≡◌, ◌≤◌, IfOk, IfErr, Some, IsTrue};
+ghost use Rattle.std.specs.Prelude.{◌≡◌, ◌≤◌, IfOk, IfErr, Some, IsTrue, map};
+ghost use Rattle.dy_build.specs.Forms.{seen_form};
 ghost use Rattle.dy_io.specs.Causes.{Rose};
 ghost use Rattle.dy_io.specs.Files.{FileMap};
 ghost use Rattle.dy_build.specs.Layout.{is_file_name};
@@ -10,6 +11,8 @@ ghost use Rattle.dy_build.specs.Judged.{seen_source, Interrupts, Fails, Misses, 
 
 use crate::layout::{LidParts, body_of, is_library_file, read_lid, source_name, with_line_feeds};
 use crate::refused::Refused;
+use crate::text::form::Form;
+use crate::text::names::{Finding, methods_apart, names_found};
 use crate::text::reading::read_text;
 use crate::text::translate::program_of;
 use dy_base::Text;
@@ -78,6 +81,25 @@ fn read_source<F: Files>(alloc: Global, files: &mut F, name: &str) -> Result<Sou
     }
 }
 
+/// The program of a library whose second file has these forms.
+fn named_program(alloc: Global, library: &[u8], file: &str, forms: &[Form]) -> Result<Program, Halt>
+    ensures verdict { Judges result (judged_forms library.now file.now (Some (map seen_form forms.now))) }
+    ensures refused { IfErr result IsPlain }
+{
+    if let Some(methods) = methods_apart(alloc, forms)? {
+        match names_found(alloc, &methods, forms)? {
+            Finding::Fine => return Ok(program_of(alloc, library, &methods, forms)?),
+            Finding::Unbound(name) => {
+                let why = Refused::no_binding(alloc, library, file.as_bytes(), name)?;
+                return Err(Halt::Refused(why));
+            }
+            Finding::Unfit => {}
+        }
+    }
+    let why = Refused::syntax(alloc, library, file.as_bytes())?;
+    Err(Halt::Refused(why))
+}
+
 /// The program of a library whose second file is this source.
 fn forms_program(
     alloc: Global,
@@ -91,7 +113,7 @@ fn forms_program(
     if let Source::Text(text) = source {
         if let Some(body) = body_of(text, library) {
             if let Some(forms) = read_text(alloc, body)? {
-                return Ok(program_of(alloc, library, &forms)?);
+                return named_program(alloc, library, file, &forms);
             }
         }
     }

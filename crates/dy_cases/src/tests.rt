@@ -1,3 +1,5 @@
+mod runs;
+
 use dy_build::run_words;
 use dy_io::{MemFiles, MemSink};
 use std::process::Abort;
@@ -49,9 +51,21 @@ fn check(
     out: &[u8],
     err: &[u8],
 ) -> Result<(), Fail> {
+    check_run(rt, &["build", "hello.lid"], text, status, out, err)
+}
+
+/// Runs the words, where `hello.lid` is a library with this text, and compares.
+fn check_run(
+    rt: &(impl AllocGlobal + Abort),
+    words: &[&str],
+    text: &[u8],
+    status: u8,
+    out: &[u8],
+    err: &[u8],
+) -> Result<(), Fail> {
     let mut files = hello(rt, text)?;
     let (sink, error_sink) = (MemSink::new(rt.alloc()), MemSink::new(rt.alloc()));
-    let ran = run(rt, &["build", "hello.lid"], &mut files, sink, error_sink)?;
+    let ran = run(rt, words, &mut files, sink, error_sink)?;
     assert_eq!(rt; ran.status, status, "the status of {text:?}");
     assert_eq!(rt; ran.out.bytes(), out, "the output of {text:?}");
     assert_eq!(rt; ran.err.bytes(), err, "the error output of {text:?}");
@@ -121,7 +135,7 @@ fn prints(rt: HostRuntime) -> Result<(), Fail> {
     Ok(())
 }
 
-static REFUSED: [&[u8]; 14] = [
+static REFUSED: [&[u8]; 18] = [
     b"format-out(\"%d\\n\", 9223372036854775808)",
     b"format-out(\"%d\\n\", 1) format-out(\"%d\\n\", 2)",
     b"format-out(\"%d\\n\", 1);;",
@@ -131,11 +145,15 @@ static REFUSED: [&[u8]; 14] = [
     b"format-out(\"%d\\n\", (1)",
     b"format-out(\"%d\\n\", 1))",
     b"format-out(\"%d\\n\", 1, 2)",
-    b"format-out(\"%d\\n\", k)",
     b"format-outs(\"%d\\n\", 1)",
     b"\tformat-out(\"%d\\n\", 1)",
     b"// nothing\n",
     b"format-out(\"%d\\n\", \xff)",
+    b"define method (n) n end;",
+    b"define method f (n) n end; define method f (n) n end;",
+    b"define method f (n) n end; format-out(\"%d\\n\", f)",
+    b"define method f (n) n(1) end;",
+    b"format-out(\"%d\\n\", if (1) 2 else 3 end)",
 ];
 
 #[test]
@@ -171,7 +189,7 @@ fn check_words(
     Ok(())
 }
 
-static OTHER_WORDS: [&[&str]; 8] = [
+static OTHER_WORDS: [&[&str]; 17] = [
     &[],
     &["build"],
     &["build", "hello.lid", "hello.lid"],
@@ -180,11 +198,20 @@ static OTHER_WORDS: [&[&str]; 8] = [
     &["check", "hello.lid"],
     &["--version"],
     &["Build", "hello.lid"],
+    &["build", "--fuel", "5"],
+    &["build", "--fuel", "1000000000001", "hello.lid"],
+    &["build", "--fuel", "00000000000001", "hello.lid"],
+    &["build", "--fuel", "", "hello.lid"],
+    &["build", "--fuel", "x", "hello.lid"],
+    &["build", "--fuel", "+5", "hello.lid"],
+    &["build", "--fuel", "1", "--fuel", "1", "hello.lid"],
+    &["build", "--fuel=5", "hello.lid"],
+    &["build", "hello.lid", "--fuel", "5"],
 ];
 
 #[test]
 fn takes_the_words_of_a_build_alone(rt: HostRuntime) -> Result<(), Fail> {
-    let usage = b"usage: banthruy build LID\n";
+    let usage = b"usage: banthruy build [--fuel N] LID\n";
     for words in &OTHER_WORDS {
         let mut files = hello(&rt, b"")?;
         check_words(&rt, words, &mut files, 3, usage)?;

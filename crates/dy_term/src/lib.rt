@@ -6,5 +6,7 @@ mod program;
 mod term;
 
 pub use literal::Literal;
-pub use program::{LibraryRow, Program, TopTerm};
+pub use program::{
+    DyType, GenericRow, Lambda, LibraryRow, Member, MethodCode, MethodRow, Params, Program, TopTerm,
+};
 pub use term::Term;

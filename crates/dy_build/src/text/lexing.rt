@@ -1,30 +1,36 @@
 //! The tokens of a text.
 
-ghost use Rattle.std.specs.Prelude.{◌≡◌, ◌≤◌, ◌<◌, ◌+◌, ◌-◌, ◌∷◌, length, IfOk, option_map, nat_eq, codes, pos};
-ghost use Rattle.std.specs.List.{prefix_len, starts_with};
-ghost use Rattle.dy_build.specs.Tokens.{is_digit, is_letter, in_name, is_graphic};
-ghost use Rattle.dy_build.specs.Lexing.{class_of, number_of, number_piece, word_piece, string_piece, piece_in, tokens_of, IsWithin};
+ghost use Rattle.std.specs.Prelude.{◌≡◌, ◌≤◌, ◌<◌, ◌+◌, ◌-◌, ◌∷◌, length, IfOk, option_map, pos};
+ghost use Rattle.dy_build.specs.Lexing.{class_of, number_of, piece_of, word_token, number_piece, string_piece, equal_piece, graphic_piece, piece_in, tokens_of, IsWithin};
 
+use crate::layout::is_name;
+use crate::text::bytes::{
+    begins_with_equal_sign, begins_with_letter, begins_with_word_byte, digits_len, word_len,
+};
 use crate::text::token::Token;
+use dy_base::Text;
 use std::alloc::{AllocError, Global};
 
 /// The largest number that a token stands for.
 const LARGEST_NUMBER: u64 = 0x7fff_ffff_ffff_ffff;
 
 /// What a byte says that stands at the front.
-#[derive(Clone, Copy, Debug, PartialEq, Eq)]
+#[derive(Debug, Drop)]
 pub(crate) enum Class {
     Blank,
     Digit,
     Letter,
     Quote,
+    Equals,
     /// A token of one byte.
     Single(Token),
+    /// A token of one byte, unless a letter follows.
+    Graphic(Token),
     Other,
 }
 
 /// What stands at the front.
-#[derive(Clone, Copy, Debug, PartialEq, Eq)]
+#[derive(Debug, Drop)]
 pub(crate) enum Piece {
     /// No token.
     Nothing,
@@ -32,34 +38,6 @@ pub(crate) enum Piece {
     Skipped,
     /// A token, and how many bytes it has behind its first.
     Taken(Token, usize),
-}
-
-fn is_digit(byte: u8) -> bool
-    ensures { result ≡ is_digit byte }
-{
-    matches!(byte, b'0'..=b'9')
-}
-
-fn is_letter(byte: u8) -> bool
-    ensures { result ≡ is_letter byte }
-{
-    matches!(byte, b'a'..=b'z' | b'A'..=b'Z')
-}
-
-fn is_graphic(byte: u8) -> bool
-    ensures { result ≡ is_graphic byte }
-{
-    match byte {
-        b'!' | b'$' | b'%' | b'&' | b'*' | b'+' | b'-' | b'/' => true,
-        b'<' | b'=' | b'>' | b'?' | b'@' | b'^' | b'_' | b'|' | b'~' => true,
-        _ => false,
-    }
-}
-
-fn in_name(byte: u8) -> bool
-    ensures { result ≡ in_name byte }
-{
-    is_letter(byte) || is_digit(byte) || is_graphic(byte)
 }
 
 fn class_of(byte: u8) -> Class
@@ -70,13 +48,15 @@ fn class_of(byte: u8) -> Class
         b'0'..=b'9' => Class::Digit,
         b'a'..=b'z' | b'A'..=b'Z' => Class::Letter,
         b'"' => Class::Quote,
+        b'=' => Class::Equals,
         b'(' => Class::Single(Token::Open),
         b')' => Class::Single(Token::Close),
         b',' => Class::Single(Token::Comma),
         b';' => Class::Single(Token::Semicolon),
         b'+' => Class::Single(Token::Plus),
         b'-' => Class::Single(Token::Minus),
-        b'*' => Class::Single(Token::Times),
+        b'*' => Class::Graphic(Token::Times),
+        b'<' => Class::Graphic(Token::Less),
         _ => Class::Other,
     }
 }
@@ -96,43 +76,53 @@ fn number_of(digits: &[u8]) -> Option<i64>
     Some(value as i64)
 }
 
-/// How many digits there are at the front.
-fn digits_len(bytes: &[u8]) -> usize
-    ensures len { result ≡ prefix_len is_digit bytes.now }
-    ensures within { result ≤ length bytes.now }
-{
-    bytes.iter().take_while(|byte| is_digit(**byte)).count()
-}
-
-/// How many bytes of a name there are at the front.
-fn word_len(bytes: &[u8]) -> usize
-    ensures len { result ≡ prefix_len in_name bytes.now }
-    ensures within { result ≤ length bytes.now }
-{
-    bytes.iter().take_while(|byte| in_name(**byte)).count()
-}
-
-/// A number whose first byte has so many bytes behind it.
-fn number_piece(value: Option<i64>, more: usize) -> Piece
-    ensures piece { result ≡ number_piece value more }
+fn piece_of(token: Option<Token>, more: usize) -> Piece
+    ensures piece { result ≡ piece_of token more }
     ensures within { IsWithin result more }
 {
-    match value {
+    match token {
+        Some(token) => Piece::Taken(token, more),
         None => Piece::Nothing,
-        Some(value) => Piece::Taken(Token::Number(value), more),
     }
 }
 
-/// The token that a word is, if it is one.
-fn word_piece(word: &[u8], more: usize) -> Piece
-    ensures piece { result ≡ word_piece word.now more }
+/// The piece of digits, of which so many stand behind the first.
+fn number_piece(text: &[u8], more: usize) -> Piece
+    requires { more < length text.now }
+    ensures piece { result ≡ number_piece text.now more }
     ensures within { IsWithin result more }
 {
-    if word == b"format-out".as_slice() {
-        Piece::Taken(Token::FormatOut, more)
-    } else {
-        Piece::Nothing
+    let (digits, rest) = text.split_at(more + 1);
+    if begins_with_word_byte(rest) {
+        return Piece::Nothing;
     }
+    match number_of(digits) {
+        Some(value) => Piece::Taken(Token::Number(value), more),
+        None => Piece::Nothing,
+    }
+}
+
+/// The token that a word is.
+fn word_token(alloc: Global, word: &[u8]) -> Result<Option<Token>, AllocError>
+    ensures { IfOk result (λ token. token ≡ word_token word.now) }
+{
+    Ok(if word == b"format-out".as_slice() {
+        Some(Token::FormatOut)
+    } else if word == b"define".as_slice() {
+        Some(Token::Define)
+    } else if word == b"method".as_slice() {
+        Some(Token::Method)
+    } else if word == b"end".as_slice() {
+        Some(Token::End)
+    } else if word == b"if".as_slice() {
+        Some(Token::If)
+    } else if word == b"else".as_slice() {
+        Some(Token::Else)
+    } else if is_name(word) {
+        Some(Token::Name(Text::of(alloc, word)?))
+    } else {
+        None
+    })
 }
 
 /// The token that begins with a quotation mark, from behind it.
@@ -147,26 +137,48 @@ fn string_piece(bytes: &[u8]) -> Piece
     }
 }
 
+fn equal_piece(bytes: &[u8]) -> Piece
+    ensures piece { result ≡ equal_piece bytes.now }
+    ensures within { IsWithin result (length bytes.now) }
+{
+    if begins_with_equal_sign(bytes) {
+        Piece::Taken(Token::Equal, 1)
+    } else {
+        Piece::Nothing
+    }
+}
+
+fn graphic_piece(token: Token, bytes: &[u8]) -> Piece
+    ensures piece { result ≡ graphic_piece token bytes.now }
+    ensures within { IsWithin result (length bytes.now) }
+{
+    if begins_with_letter(bytes) {
+        Piece::Nothing
+    } else {
+        Piece::Taken(token, 0)
+    }
+}
+
 /// What stands at the front of a text that is not empty.
-fn piece_at(text: &[u8]) -> Piece
+fn piece_at(alloc: Global, text: &[u8]) -> Result<Piece, AllocError>
     requires { 0 < length text.now }
-    ensures piece { result ≡ piece_in text.now }
-    ensures within { IsWithin result (length text.now - 1) }
+    ensures piece { IfOk result (λ piece. piece ≡ piece_in text.now) }
+    ensures within { IfOk result (λ piece. IsWithin piece (length text.now - 1)) }
 {
     let bytes = &text[1..];
     match class_of(text[0]) {
-        Class::Blank => Piece::Skipped,
-        Class::Digit => {
-            let more = digits_len(bytes);
-            number_piece(number_of(&text[..=more]), more)
-        }
+        Class::Blank => Ok(Piece::Skipped),
+        Class::Digit => Ok(number_piece(text, digits_len(bytes))),
         Class::Letter => {
             let more = word_len(bytes);
-            word_piece(&text[..=more], more)
+            let token = word_token(alloc, &text[..=more])?;
+            Ok(piece_of(token, more))
         }
-        Class::Quote => string_piece(bytes),
-        Class::Single(token) => Piece::Taken(token, 0),
-        Class::Other => Piece::Nothing,
+        Class::Quote => Ok(string_piece(bytes)),
+        Class::Equals => Ok(equal_piece(bytes)),
+        Class::Single(token) => Ok(Piece::Taken(token, 0)),
+        Class::Graphic(token) => Ok(graphic_piece(token, bytes)),
+        Class::Other => Ok(Piece::Nothing),
     }
 }
 
@@ -178,7 +190,7 @@ pub(crate) fn tokens_of(alloc: Global, text: &[u8]) -> Result<Option<Vec<Token>>
     let mut rest = text;
     while 0 < rest.len() {
         let (_, bytes) = rest.split_at(1);
-        match piece_at(rest) {
+        match piece_at(alloc, rest)? {
             Piece::Nothing => return Ok(None),
             Piece::Skipped => rest = bytes,
             Piece::Taken(token, more) => {

@@ -1,12 +1,24 @@
 //! What a text consists of.
 
+ghost use Rattle.std.specs.Prelude.{◌≡◌};
+ghost use Rattle.dy_build.specs.Grammar.{side_of};
+
+use dy_base::Text;
+
 /// A token.
-#[derive(Clone, Copy, Debug, PartialEq, Eq)]
+#[derive(Debug, Drop)]
 pub(crate) enum Token {
     /// The name `format-out`.
     FormatOut,
     /// The string literal of the directive `%d` and a line end.
     Directive,
+    Define,
+    Method,
+    End,
+    If,
+    Else,
+    /// Any other name.
+    Name(Text),
     /// A whole number.
     Number(i64),
     Open,
@@ -16,4 +28,27 @@ pub(crate) enum Token {
     Plus,
     Minus,
     Times,
+    Less,
+    Equal,
+}
+
+/// What a token does to the groups that are open.
+#[derive(Clone, Copy, Debug, PartialEq, Eq)]
+pub(crate) enum Side {
+    Opens,
+    Closes,
+    Neither,
+}
+
+pub(crate) fn side_of(token: &Token) -> Side
+    ensures { result ≡ side_of token.now }
+{
+    match token {
+        Token::Open => Side::Opens,
+        Token::If => Side::Opens,
+        Token::Define => Side::Opens,
+        Token::Close => Side::Closes,
+        Token::End => Side::Closes,
+        _ => Side::Neither,
+    }
 }

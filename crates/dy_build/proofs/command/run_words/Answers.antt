@@ -1,4 +1,5 @@
-use Rattle.std.proofs.Common.{List, ℕ, Option, subst}
+use Rattle.std.proofs.Common.{Option, subst}
+use Rattle.dy_build.specs.Words.{Build}
 use Rattle.dy_build.specs.Outcome.{command_report}
 use Rattle.dy_build.specs.Command.{SentFront, outputs}
 use Rattle.dy_build.proofs.Closings.{fronts_of}
@@ -8,7 +9,7 @@ use Rattle.dy_build.proofs.command.run_words.Goals as goal
 
 pub returns-in-Some-clause-cut_short : goal.returns-in-Some-clause-cut_short
 returns-in-Some-clause-cut_short g c = λ held told which.
-    subst (λ (words : Option (List ℕ)). SentFront (command_report words held) (outputs (g.O.Sink.contents c.args.out.now) (g.O.Sink.contents c.build.new.out) (g.E.Sink.contents c.args.err.now) (g.E.Sink.contents c.build.new.err))) c.in-Some.ensures
+    subst (λ (words : Option Build). SentFront (command_report words held) (outputs (g.O.Sink.contents c.args.out.now) (g.O.Sink.contents c.build.new.out) (g.E.Sink.contents c.args.err.now) (g.E.Sink.contents c.build.new.err))) c.in-Some.ensures
     (fronts_of _ c.build.result _ (c.build.ensures.finishes held told) which)
 
 pub returns-in-Some-clause-lids : goal.returns-in-Some-clause-lids

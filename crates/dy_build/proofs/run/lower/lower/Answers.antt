@@ -1,12 +1,18 @@
-use Rattle.std.proofs.Common.{◌≡◌, sym, subst, arith, List}
-use Rattle.std.proofs.lemmas.Grind.{common_steps}
+use Rattle.std.proofs.Common.{sym, ◌∙◌, subst}
 use Rattle.dy_term.specs.Core.{seen_program}
-use Rattle.dy_build.specs.declared.run.code.Instr.{Instr}
-use Rattle.dy_build.specs.Code.{program_code, Behaves}
-use Rattle.dy_build.proofs.Runs.{behaves}
+use Rattle.dy_build.specs.Code.{Behaves, IsValid}
+use Rattle.dy_build.proofs.Emits.{code_is}
+use Rattle.dy_build.proofs.Ends.{behaves, program_valid}
 use Rattle.dy_build.proofs.run.lower.lower.Goals as goal
+
+pub returns-clause-valid : goal.returns-clause-valid
+returns-clause-valid c =
+    let program = seen_program c.args.program.now in
+    let whole = code_is program c.in_ok-ids.ids.items c.in_ok-generics.generics.items c.in_ok-bodies.bodies.items c.in_ok-tops.tops.items c.len.result c.len-2.result c.in_ok-ids.ensures c.in_ok-generics.ensures c.in_ok-bodies.ensures (c.len.ensures ∙ c.in_ok-ids.ids.ok.0) (c.len-2.ensures ∙ c.in_ok-bodies.bodies.ok.0) c.in_ok-tops.ensures in
+    subst IsValid (sym whole) (program_valid program)
 
 pub returns-clause-behaves : goal.returns-clause-behaves
 returns-clause-behaves c =
-    let whole : c.loop-library.code.items ≡ program_code (seen_program c.args.program.now) = grind (arith, common_steps) in
-    subst (λ (code : List Instr). Behaves (seen_program c.args.program.now) code) (sym whole) (behaves (seen_program c.args.program.now))
+    let program = seen_program c.args.program.now in
+    let whole = code_is program c.in_ok-ids.ids.items c.in_ok-generics.generics.items c.in_ok-bodies.bodies.items c.in_ok-tops.tops.items c.len.result c.len-2.result c.in_ok-ids.ensures c.in_ok-generics.ensures c.in_ok-bodies.ensures (c.len.ensures ∙ c.in_ok-ids.ids.ok.0) (c.len-2.ensures ∙ c.in_ok-bodies.bodies.ok.0) c.in_ok-tops.ensures in
+    subst (Behaves program) (sym whole) (behaves program)

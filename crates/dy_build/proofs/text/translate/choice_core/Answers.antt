@@ -1,0 +1,11 @@
+use Rattle.std.proofs.Common.{List, ◌∷◌, [], map, ap, ◌∙◌}
+use Rattle.dy_term.specs.declared.term.Term.{Term}
+use Rattle.dy_term.specs.Core.{cond, choice_of, seen_pair, seen as seen_term}
+use Rattle.dy_build.proofs.Emits.{seen_cond}
+use Rattle.dy_build.proofs.text.translate.choice_core.Goals as goal
+
+pub returns : goal.returns
+returns c =
+    seen_cond c.in_ok-branches.branches c.in_ok-other.other
+    ∙ ap (λ (bs : List (Term × Term)). cond (choice_of (map seen_pair bs) (seen_term c.in_ok-other.other.value))) c.in_ok-branches.ensures.items
+    ∙ ap (λ (t : Term). cond (choice_of (map seen_pair ((c.args.test, c.args.chosen) ∷ [])) (seen_term t))) c.in_ok-other.ensures.ok
