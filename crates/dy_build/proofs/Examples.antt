@@ -1,10 +1,12 @@
 -- The definitions at examples, which they compute.
-use Rattle.std.proofs.Common.{◌≡◌, true, false, [], ◌∷◌, Some, None, refl}
+use Rattle.std.proofs.Common.{◌≡◌, ℕ, true, false, List, [], ◌∷◌, ◌++◌, Some, None, refl}
 use Rattle.std.specs.Prelude.{codes}
 use Rattle.std.specs.Fmt.{digits}
 use Rattle.dy_build.specs.Layout.{with_line_feeds, is_name, is_file_name, Lid, lid_of, is_library_file, body_of, source_name}
 use Rattle.dy_build.specs.Words.{build_with, build_of}
-use Rattle.dy_build.specs.Refusals.{refusal_line, no_file, syntax}
+use Rattle.dy_build.specs.Points.{point_at}
+use Rattle.dy_build.specs.Refusals.{refusal_line, no_file, syntax, no_binding}
+use Rattle.dy_build.specs.Outcome.{text, Verdict, refused, judged_forms}
 
 -- the escape of a line end in a text is the byte 10
 line_end : codes "\n" ≡ 10 ∷ []
@@ -87,6 +89,31 @@ absent_subject : refusal_line (no_file (codes "a.lid") (codes "a.lid")) ≡ code
 unfolding digits
 absent_subject = refl
 
-placed : refusal_line (syntax (codes "hello") (codes "b.dylan")) ≡ codes "refused hello: 17 Syntax at b.dylan:1:1\n"
+placed : refusal_line (syntax (codes "hello") (codes "b.dylan") (record { line = 3; column = 20 })) ≡ codes "refused hello: 17 Syntax at b.dylan:3:20\n"
 unfolding digits
 placed = refl
+
+second_line : point_at (codes "one\n two\n") 4 ≡ record { line = 2; column = 2 }
+second_line = refl
+
+-- what a file that holds this text behind its header is judged
+abbrev judged : List ℕ → Verdict
+judged body = judged_forms (codes "hello") (codes "hello.dylan") (text (codes "module: hello\n\n" ++ body))
+
+unfit_at : ℕ → ℕ → Verdict
+unfit_at line column = refused (syntax (codes "hello") (codes "hello.dylan") (record { line = line; column = column }))
+
+unbound_name : judged (codes "format-out(\"%d\\n\", k);") ≡ refused (no_binding (codes "hello") (codes "hello.dylan") (record { line = 3; column = 20 }) (codes "k"))
+unbound_name = refl
+
+no_method_name : judged (codes "define method (n) n end;") ≡ unfit_at 3 1
+unfolding unfit_at
+no_method_name = refl
+
+two_semicolons : judged (codes "format-out(\"%d\\n\", 1);;") ≡ unfit_at 3 23
+unfolding unfit_at
+two_semicolons = refl
+
+method_alone : judged (codes "define method f (n) n end;\nformat-out(\"%d\\n\", f);\nformat-out(1)") ≡ unfit_at 4 1
+unfolding unfit_at
+method_alone = refl

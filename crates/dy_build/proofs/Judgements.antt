@@ -1,5 +1,5 @@
 -- What the answers of the steps say of the answer of the whole.
-use Rattle.std.proofs.Common.{◌≡◌, ℕ, List, Result, Ok, Err, refl, sym, ap, ◌∙◌, Bool, true, false, Some, None, if◌then◌else◌, flat_map, inl, inr}
+use Rattle.std.proofs.Common.{◌≡◌, ℕ, List, Result, Ok, Err, refl, sym, ◌∙◌, inl, inr}
 use Rattle.std.specs.Prelude.{IfErr}
 use Rattle.dy_base.specs.declared.kind.Kind.TheVariants.{NoFile, Syntax, Unbound}
 use Rattle.dy_term.specs.declared.program.Program.{Program}
@@ -8,10 +8,6 @@ use Rattle.dy_build.specs.declared.source.Source.TheVariants as read
 use Rattle.dy_build.specs.declared.source.Halt.{Halt}
 use Rattle.dy_build.specs.declared.source.Halt.TheVariants as halts
 use Rattle.dy_build.specs.Outcome.{Verdict, judged_texts, judged_first}
-use Rattle.dy_base.specs.Tables.{NameMap}
-use Rattle.dy_build.specs.Forms.{FormTree}
-use Rattle.dy_build.specs.declared.text.names.Finding.TheVariants.{Unfit}
-use Rattle.dy_build.specs.Names.{methods_apart, methods_of, method_names, is_distinct, names_found, worst, findings}
 use Rattle.dy_build.specs.Judged.{seen_source, Judges, Misses, Fails, IsPlain, Interrupts}
 
 pub interrupted_judges : (halt : Halt) (before now : ℕ) (verdict : Verdict) → Interrupts before now halt → Judges (Err halt) verdict
@@ -47,13 +43,3 @@ both_here library first second read.TooLong (read.Text bytes) here there = refl
 both_here library first second (read.Text bytes) read.Absent here there = absurd (there refl)
 both_here library first second (read.Text bytes) read.TooLong here there = refl
 both_here library first second (read.Text bytes) (read.Text others) here there = refl
-
--- what is found of the names, where no two methods have one name
-distinct_found : {A B : Type 0} (b : Bool) (m n : A) (f : A → B) (other : B) → Some m ≡ (if b then Some n else None) → (m ≡ n) × ((if b then f n else other) ≡ f m)
-distinct_found true m n f other e = let same : m ≡ n = cc in (same, sym (ap f same))
-distinct_found false m n f other e = absurd cc
-
-pub apart_found : (forms : List FormTree) (methods : NameMap ℕ) → Some methods ≡ methods_apart forms
-    → (methods ≡ methods_of forms) × (names_found forms ≡ worst (flat_map (findings methods) forms))
-apart_found forms methods e =
-    distinct_found (is_distinct (method_names forms)) methods (methods_of forms) (λ (m : NameMap ℕ). worst (flat_map (findings m) forms)) Unfit e

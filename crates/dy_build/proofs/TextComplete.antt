@@ -1,16 +1,15 @@
 -- What is derived is read, whatever follows.
 use Rattle.std.proofs.Common.{◌≡◌, ℕ, zero, suc, ◌+◌, ◌<◌, ◌≤◌, max, Bool, true, List, [], ◌∷◌, ◌++◌, Option, Some, None, option_map, option_and_then, refl, ap, ◌∙◌, append_assoc, arith}
-use Rattle.std.proofs.lemmas.List.{append-nil}
 use Rattle.std.proofs.lemmas.Bool.{lt-ltb}
 use Rattle.dy_build.specs.declared.text.form.Operator.{Operator}
 use Rattle.dy_build.specs.declared.text.form.Operator.TheVariants.{Multiply}
 use Rattle.dy_build.specs.declared.text.form.Comparison.{Comparison}
 use Rattle.dy_build.specs.declared.text.token.Token.{Token}
-use Rattle.dy_build.specs.declared.text.token.Token.TheVariants.{FormatOut, Directive, Define, Method, End, If, Else, Name, Open, Close, Comma, Semicolon, Plus, Minus, Times, Less, Equal}
+use Rattle.dy_build.specs.declared.text.token.Token.TheVariants.{FormatOut, Directive, Define, Method, End, If, Else, Name, Open, Close, Comma, Plus, Minus, Times, Less, Equal}
 use Rattle.dy_build.specs.declared.text.token.Side.{Side}
 use Rattle.dy_build.specs.declared.text.token.Side.TheVariants.{Opens, Closes, Neither}
 use Rattle.dy_build.specs.Forms.{Tree, number, variable, operation, call, choice, depth, form_depth}
-use Rattle.dy_build.specs.Grammar.{IsSumOperator, IsComparison, Sort, leaf, product, sum, test, form, file, Derives, number_leaf, name_leaf, call_leaf, bracket_leaf, if_leaf, leaf_product, times_product, product_sum, operator_sum, comparison_test, print_form, method_form, no_form, last_form, more_forms, side_of, HasRoom, NestsWithin, AllWithin, nesting_limit}
+use Rattle.dy_build.specs.Grammar.{IsSumOperator, IsComparison, Sort, leaf, product, sum, test, form, Derives, number_leaf, name_leaf, call_leaf, bracket_leaf, if_leaf, leaf_product, times_product, product_sum, operator_sum, comparison_test, print_form, method_form, side_of, HasRoom, NestsWithin, nesting_limit}
 use Rattle.dy_build.specs.Reading.{DeepTree, Asked, Outer, printed, body_of, bracketed, argument_of, test_left, test_right, then_part, else_part, multiplied, operated, Reader, begins, wants, has, formed, above, joined, call_with, choice_of, Part, with_outer, product_of, sum_of, if_leaf_fits, after_sum, after_product, after_name, run, run_on, room_after, goes_on, nests_within}
 
 -- a tree with its depth
@@ -130,7 +129,6 @@ Complete (sum tree) tokens = depth tree < nesting_limit → (outer : Outer) → 
 Complete (test comparison left right) tokens = depth left < nesting_limit → depth right < nesting_limit → (outer : Outer) (rest : List Token)
     → run (wants (test_left outer)) (tokens ++ Close ∷ rest) ≡ run (wants (then_part (asking comparison left right) outer)) rest
 Complete (form tree) tokens = form_depth tree ≤ nesting_limit → (rest : List Token) → run begins (tokens ++ rest) ≡ run (formed tree) rest
-Complete (file forms) tokens = AllWithin nesting_limit forms → run begins tokens ≡ Some forms
 
 -- tokens up to one that ends a part, and what follows
 abbrev Ts : Type 0
@@ -198,11 +196,6 @@ complete sort tokens (method_form name parameter body inner all e h) = λ fits r
     let split : all ++ rest ≡ Define ∷ Method ∷ Name name ∷ Open ∷ Name parameter ∷ Close ∷ (inner ++ End ∷ rest) =
     ap (λ (ts : Ts). ts ++ rest) e ∙ ap (λ (ts : Ts). Define ∷ Method ∷ Name name ∷ Open ∷ Name parameter ∷ Close ∷ ts) (append_assoc inner (End ∷ []) rest) in
     ap (run begins) split ∙ complete (sum body) inner h (omega arith) (body_of name parameter) tt End tt rest
-complete sort tokens no_form = λ within. refl
-complete sort tokens (last_form first all h) = λ within.
-    let read : run begins (all ++ []) ≡ Some (first ∷ []) = complete (form first) all h within.0 [] in rw append-nil at read
-complete sort tokens (more_forms first forms before after all e h k) = λ within.
-    rw e (complete (form first) before h within.0 (Semicolon ∷ after) ∙ rw (complete (file forms) after k within.1) refl)
 
 has_room : (side : Side) (room : ℕ) (Goes : ℕ → Type 0) (more : ℕ → Bool) → ((left : ℕ) → Goes left → more left ≡ true) → HasRoom side room Goes → goes_on (room_after side room) more ≡ true
 has_room Opens zero Goes more all h = absurd h

@@ -7,12 +7,12 @@ use Rattle.dy_build.specs.declared.text.form.Operator.TheVariants.{Multiply}
 use Rattle.dy_build.specs.declared.text.form.Comparison.{Comparison}
 use Rattle.dy_build.specs.declared.text.form.Comparison.TheVariants as comparisons
 use Rattle.dy_build.specs.declared.text.token.Token.{Token}
-use Rattle.dy_build.specs.declared.text.token.Token.TheVariants.{FormatOut, Directive, Define, Method, End, If, Else, Name, Number, Open, Close, Comma, Semicolon, Plus, Minus, Times, Less, Equal}
+use Rattle.dy_build.specs.declared.text.token.Token.TheVariants.{FormatOut, Directive, Define, Method, End, If, Else, Name, Number, Open, Close, Comma, Plus, Minus, Times, Less, Equal}
 use Rattle.dy_build.specs.declared.text.token.Side.{Side}
 use Rattle.dy_build.specs.declared.text.token.Side.TheVariants.{Opens, Closes, Neither}
 use Rattle.dy_build.specs.Forms.{Tree, number, variable, operation, call, choice, FormTree, depth, form_depth}
-use Rattle.dy_build.specs.Grammar.{IsSumOperator, IsComparison, Sort, leaf, product, sum, test, form, file, Derives, number_leaf, name_leaf, call_leaf, bracket_leaf, if_leaf, leaf_product, times_product, product_sum, operator_sum, comparison_test, print_form, method_form, no_form, last_form, more_forms, side_of, HasRoom, NestsWithin, AllWithin, nesting_limit}
-use Rattle.dy_build.specs.Reading.{DeepTree, Asked, Outer, printed, body_of, bracketed, argument_of, test_left, test_right, then_part, else_part, multiplied, operated, Reader, begins, named, opened, directed, defines, methods, titled, listed, filled, wants, asks, called, has, formed, above, joined, Part, with_outer, product_of, sum_of, after_leaf, if_leaf_fits, closed, compared, split, ended, after_sum, after_product, at_leaf, after_if, after_name, after_form, step, run, run_on, room_after, goes_on, nests_within}
+use Rattle.dy_build.specs.Grammar.{IsSumOperator, IsComparison, Sort, leaf, product, sum, test, form, Derives, number_leaf, name_leaf, call_leaf, bracket_leaf, if_leaf, leaf_product, times_product, product_sum, operator_sum, comparison_test, print_form, method_form, side_of, HasRoom, NestsWithin, nesting_limit}
+use Rattle.dy_build.specs.Reading.{DeepTree, Asked, Outer, printed, body_of, bracketed, argument_of, test_left, test_right, then_part, else_part, multiplied, operated, Reader, begins, named, opened, directed, defines, methods, titled, listed, filled, wants, asks, called, has, formed, above, joined, Part, with_outer, product_of, sum_of, after_leaf, if_leaf_fits, closed, compared, split, ended, after_sum, after_product, at_leaf, after_if, after_name, step, run, run_on, room_after, goes_on, nests_within}
 
 abbrev Ts : Type 0
 Ts = List Token
@@ -221,28 +221,18 @@ after_name_sound name outer token tokens (before, e, s) =
     multiplies token tokens (product_of (record { tree = variable name; deep = 1 }) outer)
     (rw e (product_sound (record { tree = variable name; deep = 1 }) outer before (Name name ∷ []) (record { right = refl; fits = omega arith }) (name_leaf name) s))
 
-abbrev pub Holds : Option (List FormTree) → List Token → Type 0
+abbrev pub Holds : Option FormTree → List Token → Type 0
 Holds None tokens = Unit {0}
-Holds (Some forms) tokens = Derives (file forms) tokens × AllWithin nesting_limit forms
+Holds (Some tree) tokens = Derives (form tree) tokens × (form_depth tree ≤ nesting_limit)
 
 at_end_sound : (reader : Reader) (before : Ts) → Began reader before → Holds (run reader []) before
-at_end_sound begins before s = (rw s no_form, tt)
-at_end_sound (formed tree) before (h, fits) = (last_form tree before h, (fits, tt))
+at_end_sound (formed tree) before (h, fits) = (h, fits)
 at_end_sound reader before s = tt
-
-formed_more : (tree : FormTree) (before rest : Ts) (o : Option (List FormTree)) → Derives (form tree) before → form_depth tree ≤ nesting_limit → Holds o rest → Holds (option_map (λ more. tree ∷ more) o) (before ++ Semicolon ∷ rest)
-formed_more tree before rest None h fits k = tt
-formed_more tree before rest (Some forms) h fits (all, within) = (more_forms tree forms before rest (before ++ Semicolon ∷ rest) refl h all, (fits, within))
 
 on_next : (o : Option Reader) (before : Ts) (token : Token) (rest : Ts) → BeganIf o (before ++ token ∷ [])
     → ((reader : Reader) (tokens : Ts) → Began reader tokens → Holds (run reader rest) (tokens ++ rest)) → Holds (run_on o rest) (before ++ token ∷ rest)
 on_next None before token rest h below = tt
 on_next (Some reader) before token rest h below = subst (Holds (run reader rest)) (append_assoc before (token ∷ []) rest) (below reader (before ++ token ∷ []) h)
-
-after_form_sound : (tree : FormTree) (token : Token) (before rest : Ts) → Derives (form tree) before → form_depth tree ≤ nesting_limit → Holds (run begins rest) rest
-    → Holds (option_map (λ more. tree ∷ more) (run_on (after_form token) rest)) (before ++ token ∷ rest)
-after_form_sound tree Semicolon before rest h fits below = formed_more tree before rest (run begins rest) h fits below
-after_form_sound tree token before rest h fits below = tt
 
 at_form_sound : (token : Token) → BeganIf (step begins token) (token ∷ [])
 at_form_sound FormatOut = refl
@@ -296,7 +286,7 @@ sound (token ∷ rest) (wants outer) before s = on_next (at_leaf outer token) be
 sound (token ∷ rest) (asks outer) before s = on_next (after_if outer token) before token rest (after_if_sound outer token before s) (sound rest)
 sound (token ∷ rest) (called name outer) before s = on_next (after_name name outer token) before token rest (after_name_sound name outer token before s) (sound rest)
 sound (token ∷ rest) (has tree outer) before s = on_next (after_product token (tree, outer)) before token rest (after_product_sound token (tree, outer) before s) (sound rest)
-sound (token ∷ rest) (formed tree) before (h, fits) = after_form_sound tree token before rest h fits (sound rest begins [] refl)
+sound (token ∷ rest) (formed tree) before h = tt
 
 has_room : (side : Side) (room : ℕ) (Goes : ℕ → Type 0) (more : ℕ → Bool) → ((left : ℕ) → more left ≡ true → Goes left) → goes_on (room_after side room) more ≡ true → HasRoom side room Goes
 has_room Opens zero Goes more all h = absurd cc

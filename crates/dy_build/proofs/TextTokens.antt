@@ -1,5 +1,5 @@
 -- The tokens that are read are those of the text.
-use Rattle.std.proofs.Common.{◌≡◌, ℕ, zero, suc, ◌+◌, ◌-◌, ◌*◌, ◌/◌, ◌<◌, ◌≤◌, Bool, true, false, not, cond, ◌&&◌, eqb, List, [], ◌∷◌, ◌++◌, length, take, drop, fold, Option, Some, None, option_map, pos, codes, refl, sym, ap, ◌∙◌, arith}
+use Rattle.std.proofs.Common.{◌≡◌, ℕ, zero, suc, ◌+◌, ◌-◌, ◌*◌, ◌/◌, ◌<◌, ◌≤◌, Bool, true, false, not, cond, ◌&&◌, eqb, List, [], ◌∷◌, ◌++◌, length, take, drop, fold, Option, Some, None, pos, codes, refl, sym, ap, ◌∙◌, arith}
 use Rattle.std.proofs.lemmas.List.{take-append-drop, take_at, drop_at}
 use Rattle.std.proofs.lemmas.Bool.{cond_both, and_parts, and_right, or_left, ne_eqb, eqb-true, leb-true, lt-leb, ltb-false, le-ltb, false≢true}
 use Rattle.std.proofs.lemmas.Bool.Decides.{nat_tests}
@@ -7,14 +7,15 @@ use Rattle.std.proofs.Math.Numerals.{one-add}
 use Rattle.std.specs.List.{prefix_len, list_all}
 use Rattle.std.specs.Cmp.Lexicographic.{same_text}
 use Rattle.dy_build.specs.declared.text.token.Token.{Token}
-use Rattle.dy_build.specs.declared.text.token.Token.TheVariants.{FormatOut, Directive, Define, Method, End, If, Else, Name, Number, Open, Close, Comma, Semicolon, Plus, Minus, Times, Less, Equal}
+use Rattle.dy_build.specs.declared.text.token.Token.TheVariants.{FormatOut, Directive, Define, Method, End, If, Else, Name, Number, Open, Close, Comma, Semicolon, Plus, Minus, Times, Less, Equal, Unknown}
+use Rattle.dy_build.specs.declared.text.token.Spot.{Spot}
 use Rattle.dy_build.specs.declared.text.lexing.Class.{Class}
 use Rattle.dy_build.specs.declared.text.lexing.Class.TheVariants.{Blank, Digit, Letter, Quote, Equals, Single, Graphic, Other}
 use Rattle.dy_build.specs.declared.text.lexing.Piece.{Piece}
 use Rattle.dy_build.specs.declared.text.lexing.Piece.TheVariants.{Nothing, Skipped, Taken}
 use Rattle.dy_build.specs.Layout.{is_same, is_small_letter, is_name_byte, begins_with_letter, is_reserved, is_name}
-use Rattle.dy_build.specs.Tokens.{is_digit, is_letter, in_name, is_word_byte, is_blank, Each, IsNumber, Spells, BeginsWithout, EndsBefore, Lexes, nothing, blank, token}
-use Rattle.dy_build.specs.Lexing.{class_of, begins_with, number_of, piece_of, word_token, number_token, piece_from, piece_at, after_piece, tokens_after, tokens_of}
+use Rattle.dy_build.specs.Tokens.{is_digit, is_letter, in_name, is_word_byte, is_blank, Each, IsNumber, Spells, BeginsWithout, EndsBefore, BeginsOtherwise, spot_at, Lexes, nothing, blank, token, unknown}
+use Rattle.dy_build.specs.Lexing.{class_of, begins_with, number_of, piece_of, word_token, number_token, piece_from, piece_at, after_piece, spots_after, spots_of}
 
 -- the longest run of bytes that pass
 passes_more : (p : ℕ → Bool) (byte : ℕ) (bytes : List ℕ) (n : ℕ) (b : Bool) → p byte ≡ b → Each p (take n bytes) → Each p (take (cond b (1 + n) 0) (byte ∷ bytes))
@@ -169,36 +170,7 @@ piece_is byte bytes (Graphic first) h =
     cond_both _ Nothing (Taken first 0) (λ (piece : Piece). PieceIs piece byte bytes) (λ e. tt) (λ e. (h.0, h.1 bytes (begins_without is_letter bytes e)))
 piece_is byte bytes Other h = tt
 
-abbrev pub LexesIf : List ℕ → Option (List Token) → Type 0
-LexesIf text None = Unit {0}
-LexesIf text (Some tokens) = Lexes text tokens
-
-blank_before : (byte : ℕ) (bytes : List ℕ) (o : Option (List Token)) → is_blank byte ≡ true → LexesIf bytes o → LexesIf (byte ∷ bytes) o
-blank_before byte bytes None e h = tt
-blank_before byte bytes (Some tokens) e h = blank byte bytes tokens e h
-
-token_before : (first : Token) (byte more : ℕ) (bytes : List ℕ) (o : Option (List Token)) → Spells first (byte ∷ take more bytes) → EndsBefore first (drop more bytes) → LexesIf (drop more bytes) o
-    → LexesIf (byte ∷ bytes) (option_map (λ tokens. first ∷ tokens) o)
-token_before first byte more bytes None spells ends h = tt
-token_before first byte more bytes (Some tokens) spells ends h =
-    token first (byte ∷ take more bytes) (drop more bytes) (byte ∷ bytes) tokens (ap (λ (rest : List ℕ). byte ∷ rest) (sym (take-append-drop more bytes))) spells ends h
-
-after_sound : (piece : Piece) (byte : ℕ) (bytes : List ℕ) → PieceIs piece byte bytes → ((more : ℕ) → LexesIf (drop more bytes) (tokens_after more bytes))
-    → LexesIf (byte ∷ bytes) (after_piece piece (λ more. tokens_after more bytes))
-after_sound Nothing byte bytes h below = tt
-after_sound Skipped byte bytes h below = blank_before byte bytes (tokens_after 0 bytes) h (below 0)
-after_sound (Taken first more) byte bytes h below = token_before first byte more bytes (tokens_after more bytes) h.0 h.1 (below more)
-
-sound_after : (text : List ℕ) (read : ℕ) → LexesIf (drop read text) (tokens_after read text)
-sound_after [] zero = nothing
-sound_after [] (suc read) = nothing
-sound_after (byte ∷ bytes) zero = after_sound (piece_at byte bytes) byte bytes (piece_is byte bytes (class_of byte) (class_is byte)) (sound_after bytes)
-sound_after (byte ∷ bytes) (suc read) = sound_after bytes read
-
-pub tokens_sound : (text : List ℕ) → LexesIf text (tokens_of text)
-tokens_sound text = sound_after text 0
-
-skipped : (bytes rest : List ℕ) → tokens_after (length bytes) (bytes ++ rest) ≡ tokens_of rest
+skipped : (bytes rest : List ℕ) → spots_after (length bytes) (bytes ++ rest) ≡ spots_of rest
 skipped [] rest = refl
 skipped (byte ∷ bytes) rest = skipped bytes rest
 
@@ -238,21 +210,23 @@ name_word : (word : List ℕ) → is_name word ≡ true → word_token word ≡ 
 name_word word h =
     rw (h, not_word word (codes "format-out") h refl, not_word word (codes "define") h refl, not_word word (codes "method") h refl, not_word word (codes "end") h refl, not_word word (codes "if") h refl, not_word word (codes "else") h refl) refl
 
--- a word and what follows it
-word_goes : (byte : ℕ) (bytes rest : List ℕ) (first : Token) → class_of byte ≡ Letter → Each in_name bytes → BeginsWithout in_name rest → word_token (byte ∷ bytes) ≡ Some first
-    → tokens_of (byte ∷ (bytes ++ rest)) ≡ option_map (λ tokens. first ∷ tokens) (tokens_of rest)
+-- a token, and what follows it
+abbrev Goes : Token → List ℕ → List ℕ → Type 0
+Goes first bytes rest = spots_of (bytes ++ rest) ≡ spot_at first (bytes ++ rest) ∷ spots_of rest
+
+word_goes : (byte : ℕ) (bytes rest : List ℕ) (first : Token) → class_of byte ≡ Letter → Each in_name bytes → BeginsWithout in_name rest → word_token (byte ∷ bytes) ≡ Some first → Goes first (byte ∷ bytes) rest
 word_goes byte bytes rest first class each ends is =
     let front = take_at bytes rest (length bytes) refl in
     rw (class, run_len in_name bytes rest each ends, front, is, skipped bytes rest) refl
 
-name_goes : (name rest : List ℕ) → is_name name ≡ true → BeginsWithout in_name rest → tokens_of (name ++ rest) ≡ option_map (λ tokens. Name name ∷ tokens) (tokens_of rest)
+name_goes : (name rest : List ℕ) → is_name name ≡ true → BeginsWithout in_name rest → Goes (Name name) name rest
 name_goes [] rest h ends = absurd (false≢true h)
 name_goes (byte ∷ bytes) rest h ends =
     let parts = and_parts (begins_with_letter (byte ∷ bytes) && list_all is_name_byte (byte ∷ bytes)) (not (is_reserved (byte ∷ bytes))) h in
     let more = and_parts (begins_with_letter (byte ∷ bytes)) (list_all is_name_byte (byte ∷ bytes)) parts.0 in
     word_goes byte bytes rest (Name (byte ∷ bytes)) (letter_class byte more.0) (name_bytes (byte ∷ bytes) more.1).1 ends (name_word (byte ∷ bytes) h)
 
-number_goes : (value : ℕ) (bytes rest : List ℕ) → IsNumber value bytes → BeginsWithout is_digit rest → BeginsWithout is_word_byte rest → tokens_of (bytes ++ rest) ≡ option_map (λ tokens. Number (pos value) ∷ tokens) (tokens_of rest)
+number_goes : (value : ℕ) (bytes rest : List ℕ) → IsNumber value bytes → BeginsWithout is_digit rest → BeginsWithout is_word_byte rest → Goes (Number (pos value)) bytes rest
 number_goes value [] rest h ends apart = let some = h.some in absurd (omega arith)
 number_goes value (byte ∷ bytes) rest h ends apart =
     let stands = h.stands in let fits = h.fits in
@@ -261,7 +235,7 @@ number_goes value (byte ∷ bytes) rest h ends apart =
     let read = number_complete (byte ∷ bytes) 0 h.digits (rw stands fits) in
     rw (digit_class byte h.digits.0, run_len is_digit bytes rest h.digits.1 ends, back, without_begins is_word_byte rest apart, front, read, stands, skipped bytes rest) refl
 
-token_goes : (first : Token) (bytes rest : List ℕ) → Spells first bytes → EndsBefore first rest → tokens_of (bytes ++ rest) ≡ option_map (λ tokens. first ∷ tokens) (tokens_of rest)
+token_goes : (first : Token) (bytes rest : List ℕ) → Spells first bytes → EndsBefore first rest → Goes first bytes rest
 token_goes FormatOut bytes rest h ends = rw (h, run_none in_name rest ends) refl
 token_goes Directive bytes rest h ends = rw h refl
 token_goes Define bytes rest h ends = rw (h, run_none in_name rest ends) refl
@@ -280,8 +254,60 @@ token_goes Minus bytes rest h ends = rw h refl
 token_goes Times bytes rest h ends = rw (h, without_begins is_letter rest ends) refl
 token_goes Less bytes rest h ends = rw (h, without_begins is_letter rest ends) refl
 token_goes Equal bytes rest h ends = rw h refl
+token_goes Unknown bytes rest h ends = absurd h
 
-pub tokens_complete : (text : List ℕ) (tokens : List Token) → Lexes text tokens → tokens_of text ≡ Some tokens
-tokens_complete text tokens nothing = refl
-tokens_complete text tokens (blank byte rest tokens2 e h) = rw (blank_class byte e) (tokens_complete rest tokens2 h)
-tokens_complete text tokens (token first bytes rest text2 tokens2 e spells ends h) = rw (e, token_goes first bytes rest spells ends, tokens_complete rest tokens2 h) refl
+not_unknown : (first : Token) (bytes : List ℕ) → Spells first bytes → Unknown ≡ first → ⊥
+not_unknown Unknown bytes h e = h
+not_unknown first bytes h e = absurd cc
+
+abbrev first_token : List Spot → Token
+first_token [] = Unknown
+first_token (spot ∷ spots) = spot.token
+
+-- where no piece is found, neither a blank nor a token stands
+otherwise : (byte : ℕ) (bytes : List ℕ) → piece_at byte bytes ≡ Nothing → BeginsOtherwise (byte ∷ bytes)
+otherwise byte bytes none = record {
+  some = omega arith;
+  no_blank = no_blank_there (is_blank byte) refl;
+  no_token = λ first front rest split spells ends.
+      not_unknown first front spells
+      (ap (λ (piece : Piece). first_token (after_piece piece (length (byte ∷ bytes)) (λ more. spots_after more bytes))) (sym none)
+      ∙ ap (λ (text : List ℕ). first_token (spots_of text)) split
+      ∙ ap first_token (token_goes first front rest spells ends));
+}
+  where
+    no_blank_there : (b : Bool) → is_blank byte ≡ b → is_blank byte ≡ false
+    no_blank_there true e = absurd (let skipped_there : piece_at byte bytes ≡ Skipped = ap (λ (c : Class). piece_from c byte bytes) (blank_class byte e) in cc)
+    no_blank_there false e = e
+
+after_sound : (piece : Piece) (byte : ℕ) (bytes : List ℕ) → piece_at byte bytes ≡ piece → PieceIs piece byte bytes → ((more : ℕ) → Lexes (drop more bytes) (spots_after more bytes))
+    → Lexes (byte ∷ bytes) (after_piece piece (length (byte ∷ bytes)) (λ more. spots_after more bytes))
+after_sound Nothing byte bytes is h below = unknown (byte ∷ bytes) (otherwise byte bytes is)
+after_sound Skipped byte bytes is h below = blank byte bytes (spots_after 0 bytes) h (below 0)
+after_sound (Taken first more) byte bytes is h below =
+    token first (byte ∷ take more bytes) (drop more bytes) (byte ∷ bytes) (spots_after more bytes) (ap (λ (rest : List ℕ). byte ∷ rest) (sym (take-append-drop more bytes))) h.0 h.1 (below more)
+
+sound_after : (text : List ℕ) (read : ℕ) → Lexes (drop read text) (spots_after read text)
+sound_after [] zero = nothing
+sound_after [] (suc read) = nothing
+sound_after (byte ∷ bytes) zero = after_sound (piece_at byte bytes) byte bytes refl (piece_is byte bytes (class_of byte) (class_is byte)) (sound_after bytes)
+sound_after (byte ∷ bytes) (suc read) = sound_after bytes read
+
+pub spots_sound : (text : List ℕ) → Lexes text (spots_of text)
+spots_sound text = sound_after text 0
+
+unknown_piece : (byte : ℕ) (bytes : List ℕ) (piece : Piece) → PieceIs piece byte bytes → BeginsOtherwise (byte ∷ bytes) → after_piece piece (length (byte ∷ bytes)) (λ more. spots_after more bytes) ≡ spot_at Unknown (byte ∷ bytes) ∷ []
+unknown_piece byte bytes Nothing h none = refl
+unknown_piece byte bytes Skipped h none = absurd (false≢true (sym none.no_blank ∙ h))
+unknown_piece byte bytes (Taken first more) h none =
+    absurd (none.no_token first (byte ∷ take more bytes) (drop more bytes) (ap (λ (rest : List ℕ). byte ∷ rest) (sym (take-append-drop more bytes))) h.0 h.1)
+
+otherwise_goes : (text : List ℕ) → BeginsOtherwise text → spots_of text ≡ spot_at Unknown text ∷ []
+otherwise_goes [] none = let some = none.some in absurd (omega arith)
+otherwise_goes (byte ∷ bytes) none = unknown_piece byte bytes (piece_at byte bytes) (piece_is byte bytes (class_of byte) (class_is byte)) none
+
+pub spots_complete : (text : List ℕ) (spots : List Spot) → Lexes text spots → spots_of text ≡ spots
+spots_complete text spots nothing = refl
+spots_complete text spots (blank byte rest others e h) = rw (blank_class byte e) (spots_complete rest others h)
+spots_complete text spots (token first bytes rest whole others e spells ends h) = rw (e, token_goes first bytes rest spells ends, spots_complete rest others h) refl
+spots_complete text spots (unknown whole none) = otherwise_goes whole none

@@ -7,13 +7,14 @@
 --     leaf    = number | NAME | NAME "(" sum ")" | "(" sum ")"
 --             | "if" "(" test ")" sum "else" sum "end"
 --     test    = sum ("<" | "==") sum
-use Rattle.std.specs.Prelude.{◌≡◌, ℕ, zero, suc, ℤ, ◌≤◌, List, [], ◌∷◌, ◌++◌}
+use Rattle.std.specs.Prelude.{◌≡◌, ◌⊎◌, ℕ, zero, suc, ℤ, ◌≤◌, List, [], ◌∷◌, ◌++◌, map}
 use Rattle.dy_build.specs.declared.text.form.Operator.{Operator}
 use Rattle.dy_build.specs.declared.text.form.Operator.TheVariants.{Add, Subtract, Multiply}
 use Rattle.dy_build.specs.declared.text.form.Comparison.{Comparison}
 use Rattle.dy_build.specs.declared.text.form.Comparison.TheVariants as comparisons
 use Rattle.dy_build.specs.declared.text.token.Token.{Token}
 use Rattle.dy_build.specs.declared.text.token.Token.TheVariants.{FormatOut, Directive, Define, Method, End, If, Else, Name, Number, Open, Close, Comma, Semicolon, Plus, Minus, Times, Less, Equal}
+use Rattle.dy_build.specs.declared.text.token.Spot.{Spot}
 use Rattle.dy_build.specs.declared.text.token.Side.{Side}
 use Rattle.dy_build.specs.declared.text.token.Side.TheVariants.{Opens, Closes, Neither}
 use Rattle.dy_build.specs.Forms.{Tree, number, variable, operation, call, choice, FormTree, print, method, form_depth}
@@ -38,7 +39,6 @@ pub data Sort : Type 0 where
   sum : (tree : Tree) → Sort
   test : (comparison : Comparison) (left : Tree) (right : Tree) → Sort
   form : (tree : FormTree) → Sort
-  file : (forms : List FormTree) → Sort
 
 -- the tokens are derived from the nonterminal
 pub data Derives : Sort → List Token → Type 0 where
@@ -62,10 +62,6 @@ pub data Derives : Sort → List Token → Type 0 where
       → Derives (sum value) inner → Derives (form (print value)) tokens
   method_form : (name parameter : List ℕ) (body : Tree) (inner tokens : List Token) → tokens ≡ Define ∷ Method ∷ Name name ∷ Open ∷ Name parameter ∷ Close ∷ (inner ++ End ∷ [])
       → Derives (sum body) inner → Derives (form (method name parameter body)) tokens
-  no_form : Derives (file []) []
-  last_form : (first : FormTree) (tokens : List Token) → Derives (form first) tokens → Derives (file (first ∷ [])) tokens
-  more_forms : (first : FormTree) (forms : List FormTree) (before after tokens : List Token) → tokens ≡ before ++ Semicolon ∷ after
-      → Derives (form first) before → Derives (file forms) after → Derives (file (first ∷ forms)) tokens
 
 -- what a token does to the groups that are open: round brackets, `if .. end` and `define method .. end`
 abbrev pub side_of : Token → Side
@@ -87,19 +83,51 @@ abbrev pub NestsWithin : ℕ → List Token → Type 0
 NestsWithin room [] = Unit {0}
 NestsWithin room (token ∷ tokens) = HasRoom (side_of token) room (λ left. NestsWithin left tokens)
 
--- no form is deeper than this
-abbrev pub AllWithin : ℕ → List FormTree → Type 0
-AllWithin limit [] = Unit {0}
-AllWithin limit (first ∷ forms) = (form_depth first ≤ limit) × AllWithin limit forms
-
 -- How deep groups, and trees, may be nested (own).
 abbrev pub nesting_limit : ℕ
 nesting_limit = 200
 
+-- the tokens are this form, and neither its groups nor its tree are too deep
+pub record Fits (tree : FormTree) (tokens : List Token) : Type 0 where
+  pub derived : Derives (form tree) tokens
+  pub nested : NestsWithin nesting_limit tokens
+  pub deep : form_depth tree ≤ nesting_limit
+
+-- the tokens, without where they stand
+abbrev pub bare : List Spot → List Token
+bare spots = map (λ spot. spot.token) spots
+
+-- the spots are a form that fits and its `;`, and what follows
+pub record Leads (tree : FormTree) (after spots : List Spot) : Type 0 where
+  pub before : List Spot
+  pub end : Spot
+  pub split : spots ≡ before ++ end ∷ after
+  pub semicolon : end.token ≡ Semicolon
+  pub fits : Fits tree (bare before)
+
+-- the spots are forms that fit
+pub data IsFile : List FormTree → List Spot → Type 0 where
+  no_form : IsFile [] []
+  last_form : (first : FormTree) (spots : List Spot) → Fits first (bare spots) → IsFile (first ∷ []) spots
+  more_forms : (first : FormTree) (forms : List FormTree) (after spots : List Spot) → Leads first after spots → IsFile forms after → IsFile (first ∷ forms) spots
+
+-- a form that fits stands in front of a `;` or of the end
+abbrev pub BeginsWithForm : List Spot → Type 0
+BeginsWithForm spots = (tree : FormTree) × (Fits tree (bare spots) ⊎ ((after : List Spot) × Leads tree after spots))
+
+-- Behind these forms, which fit, each with its `;`, no form that fits begins. So much of the text is left there.
+pub data HasFault : List FormTree → ℕ → List Spot → Type 0 where
+  here : (first : Spot) (spots : List Spot) → (BeginsWithForm (first ∷ spots) → ⊥) → HasFault [] first.left (first ∷ spots)
+  later : (first : FormTree) (forms : List FormTree) (left : ℕ) (after spots : List Spot) → Leads first after spots → HasFault forms left after → HasFault (first ∷ forms) left spots
+
 -- the text stands for these forms
 pub record IsText (text : List ℕ) (forms : List FormTree) : Type 0 where
-  pub tokens : List Token
-  pub lexed : Lexes text tokens
-  pub derived : Derives (file forms) tokens
-  pub nested : NestsWithin nesting_limit tokens
-  pub deep : AllWithin nesting_limit forms
+  pub spots : List Spot
+  pub lexed : Lexes text spots
+  pub file : IsFile forms spots
+
+-- The text stands for these forms up to a form that does not fit, and so much of it is left where this one begins.
+pub record IsFaulty (text : List ℕ) (forms : List FormTree) (left : ℕ) : Type 0 where
+  pub spots : List Spot
+  pub lexed : Lexes text spots
+  pub fault : HasFault forms left spots

@@ -1,8 +1,9 @@
 -- The tokens of a text, by functions that compute.
-use Rattle.std.specs.Prelude.{ℕ, zero, suc, ◌+◌, ◌-◌, ◌*◌, ◌/◌, ◌^◌, ◌≤◌, Bool, false, ◌==◌, nat_eq, nat_lt, if◌then◌else◌, List, [], ◌∷◌, ◌++◌, take, drop, Option, Some, None, option_map, pos, codes}
+use Rattle.std.specs.Prelude.{ℕ, zero, suc, ◌+◌, ◌-◌, ◌*◌, ◌/◌, ◌^◌, ◌≤◌, Bool, false, ◌==◌, nat_eq, nat_lt, if◌then◌else◌, List, [], ◌∷◌, take, drop, length, Option, Some, None, option_map, pos, codes}
 use Rattle.std.specs.List.{prefix_len, starts_with}
 use Rattle.dy_build.specs.declared.text.token.Token.{Token}
-use Rattle.dy_build.specs.declared.text.token.Token.TheVariants.{FormatOut, Directive, Define, Method, End, If, Else, Name, Number, Open, Close, Comma, Semicolon, Plus, Minus, Times, Less, Equal}
+use Rattle.dy_build.specs.declared.text.token.Token.TheVariants.{FormatOut, Directive, Define, Method, End, If, Else, Name, Number, Open, Close, Comma, Semicolon, Plus, Minus, Times, Less, Equal, Unknown}
+use Rattle.dy_build.specs.declared.text.token.Spot.{Spot}
 use Rattle.dy_build.specs.declared.text.lexing.Class.{Class}
 use Rattle.dy_build.specs.declared.text.lexing.Class.TheVariants.{Blank, Digit, Letter, Quote, Equals, Single, Graphic, Other}
 use Rattle.dy_build.specs.declared.text.lexing.Piece.{Piece}
@@ -96,27 +97,24 @@ abbrev pub piece_in : List ℕ → Piece
 piece_in [] = Nothing
 piece_in (byte ∷ bytes) = piece_at byte bytes
 
-abbrev pub after_piece : Piece → (ℕ → Option (List Token)) → Option (List Token)
-after_piece Nothing go = None
-after_piece Skipped go = go 0
-after_piece (Taken token more) go = option_map (λ tokens. token ∷ tokens) (go more)
+-- what stands at the front, where so much of the text is left, and the tokens behind it
+abbrev pub after_piece : Piece → ℕ → (ℕ → List Spot) → List Spot
+after_piece Nothing left go = record { token = Unknown; left = left } ∷ []
+after_piece Skipped left go = go 0
+after_piece (Taken token more) left go = record { token = token; left = left } ∷ go more
 
 -- the tokens of a text of which so many bytes at the front are read already
-abbrev pub tokens_after : ℕ → List ℕ → Option (List Token)
-tokens_after read [] = Some []
-tokens_after zero (byte ∷ bytes) = after_piece (piece_at byte bytes) (λ more. tokens_after more bytes)
-tokens_after (suc read) (byte ∷ bytes) = tokens_after read bytes
+abbrev pub spots_after : ℕ → List ℕ → List Spot
+spots_after read [] = []
+spots_after zero (byte ∷ bytes) = after_piece (piece_at byte bytes) (length (byte ∷ bytes)) (λ more. spots_after more bytes)
+spots_after (suc read) (byte ∷ bytes) = spots_after read bytes
 
--- the tokens of a text, if it consists of tokens
-abbrev pub tokens_of : List ℕ → Option (List Token)
-tokens_of text = tokens_after 0 text
+-- the tokens of a text, and where they stand
+abbrev pub spots_of : List ℕ → List Spot
+spots_of text = spots_after 0 text
 
 -- no more bytes than these are behind the first
 abbrev pub IsWithin : Piece → ℕ → Type 0
 IsWithin Nothing room = Unit {0}
 IsWithin Skipped room = Unit {0}
 IsWithin (Taken token more) room = more ≤ room
-
--- what was read before, and what is read after it
-abbrev pub with_front : {A : Type 0} → List A → Option (List A) → Option (List A)
-with_front front items = option_map (λ more. front ++ more) items

@@ -1,5 +1,5 @@
 -- What a command comes to (own).
-use Rattle.std.specs.Prelude.{ℕ, nat_le, List, [], length, Option, Some, None, Bool, false, if◌then◌else◌, option_and_then}
+use Rattle.std.specs.Prelude.{ℕ, nat_le, List, [], length, Option, Some, None, Bool, false, if◌then◌else◌}
 use Rattle.std.specs.List.{concat}
 use Rattle.std.specs.FinMap as map
 use Rattle.dy_io.specs.Files.{FileMap}
@@ -9,11 +9,14 @@ use Rattle.dy_build.specs.Forms.{FormTree}
 use Rattle.dy_build.specs.Layout.{file_limit, with_line_feeds, Lid, lid_of, is_library_file, body_of, source_name}
 use Rattle.dy_build.specs.Words.{Build, build_of, usage_text}
 use Rattle.dy_build.specs.Refusals.{refusal_line, no_file, syntax, no_binding}
+use Rattle.dy_build.specs.declared.text.token.Spot.{Spot}
 use Rattle.dy_build.specs.declared.text.names.Finding.{Finding}
 use Rattle.dy_build.specs.declared.text.names.Finding.TheVariants.{Fine, Unbound, Unfit}
-use Rattle.dy_build.specs.Names.{names_found}
+use Rattle.dy_build.specs.Names.{findings, told}
+use Rattle.dy_build.specs.Points.{point_at, start}
 use Rattle.dy_build.specs.Lines.{unhandled_line, out_of_fuel_line}
-use Rattle.dy_build.specs.Reading.{forms_of}
+use Rattle.dy_build.specs.Lexing.{spots_of}
+use Rattle.dy_build.specs.Reading.{reading_in}
 use Rattle.dy_build.specs.Core.{program_of}
 use Rattle.dy_build.specs.Meaning.{Outcome, Gave, Exits, Ended, Spent, program_meaning}
 use Rattle.dy_build.specs.Machine.{no_block}
@@ -39,29 +42,35 @@ abbrev pub is_library_source : Source → List ℕ → Bool
 is_library_source (text bytes) name = is_library_file bytes name
 is_library_source _ name = false
 
-abbrev pub forms_in : Source → List ℕ → Option (List FormTree)
-forms_in (text bytes) name = option_and_then forms_of (body_of bytes name)
-forms_in _ name = None
-
 -- why a library is refused, or the program that it is
 pub data Verdict : Type 0 where
   refused : (why : Refused) → Verdict
   accepted : (program : List CoreLibrary) → Verdict
 
--- by what is found of the names of the forms
-abbrev pub judged_names : List ℕ → List ℕ → List FormTree → Finding → Verdict
-judged_names library file forms Fine = accepted (program_of library forms)
-judged_names library file forms (Unbound name) = refused (no_binding library file name)
-judged_names library file forms Unfit = refused (syntax library file)
+-- by what is found of a text with these forms
+abbrev pub judged_found : List ℕ → List ℕ → List ℕ → List FormTree → Finding → Verdict
+judged_found library file bytes forms Fine = accepted (program_of library forms)
+judged_found library file bytes forms (Unbound name left) = refused (no_binding library file (point_at bytes left) name)
+judged_found library file bytes forms (Unfit left) = refused (syntax library file (point_at bytes left))
 
-abbrev pub judged_forms : List ℕ → List ℕ → Option (List FormTree) → Verdict
-judged_forms library file None = refused (syntax library file)
-judged_forms library file (Some forms) = judged_names library file forms (names_found forms)
+-- By the tokens behind the header of a text. These stand at its end, so as much of it is left at each.
+abbrev pub judged_spots : List ℕ → List ℕ → List ℕ → List Spot → Verdict
+judged_spots library file bytes spots =
+    let reading = reading_in spots in judged_found library file bytes reading.forms (told (findings reading spots))
+
+abbrev pub judged_body : List ℕ → List ℕ → List ℕ → Option (List ℕ) → Verdict
+judged_body library file bytes None = refused (syntax library file start)
+judged_body library file bytes (Some body) = judged_spots library file bytes (spots_of body)
+
+-- the file that holds the forms
+abbrev pub judged_forms : List ℕ → List ℕ → Source → Verdict
+judged_forms library file (text bytes) = judged_body library file bytes (body_of bytes library)
+judged_forms library file _ = refused (syntax library file start)
 
 -- both files are there: the first is to define the library, and the second holds its forms
 abbrev pub judged_texts : List ℕ → List ℕ → List ℕ → Source → Source → Verdict
 judged_texts library first second a b =
-    if is_library_source a library then judged_forms library second (forms_in b library) else refused (syntax library first)
+    if is_library_source a library then judged_forms library second b else refused (syntax library first start)
 
 abbrev pub judged_second : List ℕ → List ℕ → List ℕ → Source → Source → Verdict
 judged_second library first second a absent = refused (no_file library second)
@@ -75,7 +84,7 @@ judged_first library first second too_long b = judged_second library first secon
 judged_first library first second (text bytes) b = judged_second library first second (text bytes) b
 
 abbrev pub judged_parts : FileMap → List ℕ → Option Lid → Verdict
-judged_parts files lid None = refused (syntax lid lid)
+judged_parts files lid None = refused (syntax lid lid start)
 judged_parts files lid (Some parts) =
     let first = source_name lid parts.first in
     let second = source_name lid parts.second in

@@ -1,21 +1,24 @@
--- The forms of a text, by functions that compute: token by token, with what a tree will be a part of.
-use Rattle.std.specs.Prelude.{ℕ, zero, suc, ◌+◌, ◌-◌, max, Bool, true, false, nat_lt, if◌then◌else◌, List, [], ◌∷◌, Option, Some, None, option_map, option_and_then}
+-- The forms of a text, by functions that compute: form by form, and token by token, with what a tree will be a part of.
+use Rattle.std.specs.Prelude.{ℕ, zero, suc, ◌+◌, ◌-◌, max, Bool, true, false, not, nat_lt, if◌then◌else◌, List, [], ◌∷◌, ◌++◌, map, Option, Some, None, option_map, option_and_then}
+use Rattle.std.specs.List.{before_first, after_first}
 use Rattle.dy_build.specs.declared.text.form.Operator.{Operator}
 use Rattle.dy_build.specs.declared.text.form.Operator.TheVariants.{Add, Subtract, Multiply}
 use Rattle.dy_build.specs.declared.text.form.Comparison.{Comparison}
 use Rattle.dy_build.specs.declared.text.form.Comparison.TheVariants as comparisons
 use Rattle.dy_build.specs.declared.text.token.Token.{Token}
 use Rattle.dy_build.specs.declared.text.token.Token.TheVariants.{FormatOut, Directive, Define, Method, End, If, Else, Name, Number, Open, Close, Comma, Semicolon, Plus, Minus, Times, Less, Equal}
+use Rattle.dy_build.specs.declared.text.token.Spot.{Spot}
 use Rattle.dy_build.specs.declared.text.place.Deep.{Deep}
 use Rattle.dy_build.specs.declared.text.place.Test.{Test}
 use Rattle.dy_build.specs.declared.text.place.Place.{Place, Printed, Body, Bracketed', Argument', TestLeft', TestRight', Chosen', Other', Multiplied', Operated'}
 use Rattle.dy_build.specs.declared.text.place.Part.{Part as Held}
 use Rattle.dy_build.specs.declared.text.place.State as code
+use Rattle.dy_build.specs.declared.text.reading.Reading.{Reading as Read}
 use Rattle.dy_build.specs.Forms.{Tree, number, variable, operation, call, choice, FormTree, print, method, seen, seen_form}
 use Rattle.dy_build.specs.declared.text.token.Side.{Side}
 use Rattle.dy_build.specs.declared.text.token.Side.TheVariants.{Opens, Closes, Neither}
-use Rattle.dy_build.specs.Grammar.{side_of, nesting_limit}
-use Rattle.dy_build.specs.Lexing.{tokens_of}
+use Rattle.dy_build.specs.Grammar.{side_of, nesting_limit, bare}
+use Rattle.dy_build.specs.Lexing.{spots_of}
 
 -- a tree and its depth
 pub record DeepTree : Type 0 where
@@ -42,7 +45,7 @@ pub data Outer : Type 0 where
   operated : (operator : Operator) (left : DeepTree) (outer : Outer) → Outer
 
 pub data Reader : Type 0 where
-  -- a form or the end comes
+  -- a form comes
   begins : Reader
   -- the first tokens of a call that prints were read
   named : Reader
@@ -193,10 +196,6 @@ abbrev pub after_filled : List ℕ → List ℕ → Token → Option Reader
 after_filled name parameter Close = Some (wants (body_of name parameter))
 after_filled name parameter _ = None
 
-abbrev pub after_form : Token → Option Reader
-after_form Semicolon = Some begins
-after_form _ = None
-
 abbrev pub step : Reader → Token → Option Reader
 step begins token = at_form token
 step named token = after_named token
@@ -211,24 +210,19 @@ step (wants outer) token = at_leaf outer token
 step (asks outer) token = after_if outer token
 step (called name outer) token = after_name name outer token
 step (has product outer) token = after_product token (product, outer)
-step (formed form) token = after_form token
+step (formed form) token = None
 
--- nothing, or a form that was read whole, and the forms after it
-abbrev pub with_form : Reader → Option (List FormTree) → Option (List FormTree)
-with_form (formed form) forms = option_map (λ more. form ∷ more) forms
-with_form _ forms = forms
+-- the form, where all of it was read
+abbrev pub whole : Reader → Option FormTree
+whole (formed form) = Some form
+whole _ = None
 
-abbrev pub at_end : Reader → Option (List FormTree)
-at_end begins = Some []
-at_end (formed form) = Some (form ∷ [])
-at_end _ = None
+-- the form of what was read and of the tokens that are left
+abbrev pub run : Reader → List Token → Option FormTree
+run reader [] = whole reader
+run reader (token ∷ tokens) = option_and_then (λ next. run next tokens) (step reader token)
 
--- the forms of the tokens that are left
-abbrev pub run : Reader → List Token → Option (List FormTree)
-run reader [] = at_end reader
-run reader (token ∷ tokens) = with_form reader (option_and_then (λ next. run next tokens) (step reader token))
-
-abbrev pub run_on : Option Reader → List Token → Option (List FormTree)
+abbrev pub run_on : Option Reader → List Token → Option FormTree
 run_on reader tokens = option_and_then (λ next. run next tokens) reader
 
 -- how many more groups may be opened
@@ -246,12 +240,49 @@ abbrev pub nests_within : ℕ → List Token → Bool
 nests_within room [] = true
 nests_within room (token ∷ tokens) = goes_on (room_after (side_of token) room) (λ left. nests_within left tokens)
 
-abbrev pub forms_in : List Token → Option (List FormTree)
-forms_in tokens = if nests_within nesting_limit tokens then run begins tokens else None
+-- the form that tokens are, if they are one that fits
+abbrev pub form_in : List Token → Option FormTree
+form_in tokens = if nests_within nesting_limit tokens then run begins tokens else None
 
--- the forms of a text, if it stands for forms
-abbrev pub forms_of : List ℕ → Option (List FormTree)
-forms_of text = option_and_then forms_in (tokens_of text)
+abbrev pub is_semicolon : Token → Bool
+is_semicolon Semicolon = true
+is_semicolon _ = false
+
+abbrev pub ends_form : Spot → Bool
+ends_form spot = is_semicolon spot.token
+
+-- the spots up to the next `;`, and those behind it
+abbrev pub front : List Spot → List Spot
+front spots = before_first ends_form spots
+
+abbrev pub behind : List Spot → List Spot
+behind spots = after_first ends_form spots
+
+-- the forms of a file up to the first that does not fit, and how much of the text is left where that one begins
+pub record Reading : Type 0 where
+  pub forms : List FormTree
+  pub fault : Option ℕ
+
+abbrev pub with_form : Option FormTree → ℕ → Reading → Reading
+with_form None left reading = record { forms = []; fault = Some left }
+with_form (Some form) left reading = record { forms = form ∷ reading.forms; fault = reading.fault }
+
+-- the forms that were read before, and what is read behind them
+abbrev pub behind_forms : List FormTree → Reading → Reading
+behind_forms forms reading = record { forms = forms ++ reading.forms; fault = reading.fault }
+
+-- what is read of spots, from the first on or from behind the next `;` on
+abbrev pub read_from : Bool → List Spot → Reading
+read_from within [] = record { forms = []; fault = None }
+read_from true (spot ∷ spots) = read_from (not (ends_form spot)) spots
+read_from false (spot ∷ spots) = with_form (form_in (bare (front (spot ∷ spots)))) spot.left (read_from (not (ends_form spot)) spots)
+
+abbrev pub reading_in : List Spot → Reading
+reading_in spots = read_from false spots
+
+-- what is read of a text
+abbrev pub reading_of : List ℕ → Reading
+reading_of text = reading_in (spots_of text)
 
 abbrev pub seen_deep : Deep → DeepTree
 seen_deep tree = record { tree = seen tree.tree.value; deep = tree.deep }
@@ -289,3 +320,6 @@ seen_reader (code.TheVariants.Formed form) = formed (seen_form form)
 
 abbrev pub seen_part : Held → Part
 seen_part part = (seen_deep part.tree, seen_outer part.place)
+
+abbrev pub seen_reading : Read → Reading
+seen_reading reading = record { forms = map seen_form reading.forms.items; fault = reading.fault }

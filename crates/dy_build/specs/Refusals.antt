@@ -4,6 +4,7 @@ use Rattle.dy_base.specs.Kinds.{code_of, name_of}
 use Rattle.dy_base.specs.declared.kind.Kind.{Kind}
 use Rattle.dy_base.specs.declared.kind.Kind.TheVariants.{NoFile, Syntax, Unbound}
 use Rattle.dy_build.specs.Layout.{is_same}
+use Rattle.dy_build.specs.declared.point.Point.{Point}
 use Rattle.dy_build.specs.declared.refused.Position.{Position}
 use Rattle.dy_build.specs.declared.refused.Refused.{Refused}
 
@@ -33,12 +34,13 @@ abbrev pub no_file : List ℕ → List ℕ → Refused
 no_file subject file =
     record { kind = NoFile; subject = subject; position = None; shown = if is_same file subject then [] else file ∷ [] }
 
--- A file is not in the grammar, and no place in it is known.
-abbrev pub syntax : List ℕ → List ℕ → Refused
-syntax subject file =
-    record { kind = Syntax; subject = subject; position = Some (record { file = file; line = 1; column = 1 }); shown = [] }
+abbrev pub position_at : List ℕ → Point → Position
+position_at file point = record { file = file; line = point.line; column = point.column }
 
--- A name has no binding. No place of it is known.
-abbrev pub no_binding : List ℕ → List ℕ → List ℕ → Refused
-no_binding subject file name =
-    record { kind = Unbound; subject = subject; position = Some (record { file = file; line = 1; column = 1 }); shown = name ∷ [] }
+-- At this place a file is not in the grammar.
+abbrev pub syntax : List ℕ → List ℕ → Point → Refused
+syntax subject file point = record { kind = Syntax; subject = subject; position = Some (position_at file point); shown = [] }
+
+-- The name at this place has no binding.
+abbrev pub no_binding : List ℕ → List ℕ → Point → List ℕ → Refused
+no_binding subject file point name = record { kind = Unbound; subject = subject; position = Some (position_at file point); shown = name ∷ [] }

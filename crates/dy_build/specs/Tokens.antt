@@ -1,7 +1,8 @@
--- Which tokens a text consists of (DRM 2, appendix A). It is stated of texts whose lines end with LF.
+-- Which tokens a text consists of, and where (DRM 2, appendix A). It is stated of texts whose lines end with LF.
 use Rattle.std.specs.Prelude.{◌≡◌, ℕ, ◌+◌, ◌-◌, ◌*◌, ◌^◌, ◌<◌, Bool, true, false, ◌&&◌, ◌||◌, ◌==◌, nat_le, List, [], ◌∷◌, ◌++◌, length, codes, pos, fold}
 use Rattle.dy_build.specs.declared.text.token.Token.{Token}
-use Rattle.dy_build.specs.declared.text.token.Token.TheVariants.{FormatOut, Directive, Define, Method, End, If, Else, Name, Number, Open, Close, Comma, Semicolon, Plus, Minus, Times, Less, Equal}
+use Rattle.dy_build.specs.declared.text.token.Token.TheVariants.{FormatOut, Directive, Define, Method, End, If, Else, Name, Number, Open, Close, Comma, Semicolon, Plus, Minus, Times, Less, Equal, Unknown}
+use Rattle.dy_build.specs.declared.text.token.Spot.{Spot}
 use Rattle.dy_build.specs.Layout.{is_name}
 
 abbrev pub is_between : ℕ → ℕ → ℕ → Bool
@@ -65,6 +66,7 @@ Spells Minus bytes = bytes ≡ codes "-"
 Spells Times bytes = bytes ≡ codes "*"
 Spells Less bytes = bytes ≡ codes "<"
 Spells Equal bytes = bytes ≡ codes "=="
+Spells Unknown bytes = ⊥
 
 -- the text does not begin with such a byte
 abbrev pub BeginsWithout : (ℕ → Bool) → List ℕ → Type 0
@@ -85,8 +87,20 @@ EndsBefore Times rest = BeginsWithout is_letter rest
 EndsBefore Less rest = BeginsWithout is_letter rest
 EndsBefore _ rest = Unit {0}
 
--- the text is these tokens, with blanks between them
-pub data Lexes : List ℕ → List Token → Type 0 where
+-- neither a blank nor a token stands at the front
+pub record BeginsOtherwise (text : List ℕ) : Type 0 where
+  pub some : 0 < length text
+  pub no_blank : BeginsWithout is_blank text
+  pub no_token : (first : Token) (bytes rest : List ℕ) → text ≡ bytes ++ rest → Spells first bytes → EndsBefore first rest → ⊥
+
+-- a token at the front of what is left of a text
+abbrev pub spot_at : Token → List ℕ → Spot
+spot_at token text = record { token = token; left = length text }
+
+-- The text is these tokens, with blanks between them, each with how much of the text is left where it begins. What
+-- begins no token comes last: nothing behind it is a token of the text.
+pub data Lexes : List ℕ → List Spot → Type 0 where
   nothing : Lexes [] []
-  blank : (byte : ℕ) (rest : List ℕ) (tokens : List Token) → is_blank byte ≡ true → Lexes rest tokens → Lexes (byte ∷ rest) tokens
-  token : (first : Token) (bytes rest text : List ℕ) (tokens : List Token) → text ≡ bytes ++ rest → Spells first bytes → EndsBefore first rest → Lexes rest tokens → Lexes text (first ∷ tokens)
+  blank : (byte : ℕ) (rest : List ℕ) (spots : List Spot) → is_blank byte ≡ true → Lexes rest spots → Lexes (byte ∷ rest) spots
+  token : (first : Token) (bytes rest text : List ℕ) (spots : List Spot) → text ≡ bytes ++ rest → Spells first bytes → EndsBefore first rest → Lexes rest spots → Lexes text (spot_at first text ∷ spots)
+  unknown : (text : List ℕ) → BeginsOtherwise text → Lexes text (spot_at Unknown text ∷ [])

@@ -1,6 +1,6 @@
 //! The commands, from their words to the exit status.
 
-ghost use Rattle.std.specs.Prelude.{◌≡◌, ◌≢◌, ◌≤◌, ◌⊎◌, ◌↔◌, ℕ, List, Some, None, map, string_bytes};
+ghost use Rattle.std.specs.Prelude.{◌≡◌, ◌≢◌, ◌≤◌, ◌⊎◌, ◌↔◌, ◌++◌, ℕ, List, length, Some, None, map, string_bytes};
 ghost use Rattle.dy_io.specs.Causes.{Rose};
 ghost use Rattle.dy_io.specs.Files.{FileMap};
 ghost use Rattle.dy_term.specs.Core.{seen_program};
@@ -11,10 +11,13 @@ ghost use Rattle.dy_build.specs.Refusals.{refusal_line};
 ghost use Rattle.dy_build.specs.Outcome.{run_report, build_report, verdict, usage_report, outcome};
 ghost use Rattle.dy_build.specs.Command.{PutsLine, Closes, Finishes, Refuses, TellsFault, Stood, Done, SentFront, outputs};
 ghost use Rattle.dy_build.specs.Words.{build_of};
-ghost use Rattle.dy_build.specs.Layout.{Lid, lid_of, IsLid};
+ghost use Rattle.dy_build.specs.Layout.{Lid, lid_of, IsLid, body_of};
+ghost use Rattle.dy_build.specs.Points.{point_behind, point_at};
 ghost use Rattle.dy_build.specs.Forms.{FormTree};
-ghost use Rattle.dy_build.specs.Reading.{forms_of};
-ghost use Rattle.dy_build.specs.Grammar.{IsText};
+ghost use Rattle.dy_build.specs.Reading.{reading_of};
+ghost use Rattle.dy_build.specs.Names.{uses, use_of, behind_head, form_uses};
+ghost use Rattle.dy_build.specs.declared.text.token.Spot.{Spot};
+ghost use Rattle.dy_build.specs.Grammar.{bare, Fits, IsText, IsFaulty};
 ghost use Rattle.dy_build.specs.Lines.{file_fault_line};
 ghost use Rattle.dy_io.specs.Sinks.{AppendsFront};
 
@@ -185,7 +188,15 @@ pub fn run_words<F: Files, O: Sink, E: Sink>(
 
     // What the outcome reads in a file is exactly what the file's text stands for.
     ensures lids { (text : List ℕ) (lid : Lid) → (lid_of text ≡ Some lid) ↔ IsLid text lid }
-    ensures texts { (text : List ℕ) (forms : List FormTree) → (forms_of text ≡ Some forms) ↔ IsText text forms }
+    ensures texts { (text : List ℕ) (forms : List FormTree) → (reading_of text ≡ record { forms = forms; fault = None }) ↔ IsText text forms }
+    ensures faulty_texts { (text : List ℕ) (forms : List FormTree) (left : ℕ) → (reading_of text ≡ record { forms = forms; fault = Some left }) ↔ IsFaulty text forms left }
+
+    // The body is the end of its text, so that as much is left of both, and a place is told by what stands before it.
+    ensures bodies { (text name body : List ℕ) → body_of text name ≡ Some body → (front : List ℕ) × (text ≡ front ++ body) }
+    ensures places { (front rest : List ℕ) → point_at (front ++ rest) (length rest) ≡ point_behind front }
+
+    // The names that are judged are those of the form.
+    ensures names { (form : FormTree) (spots : List Spot) → Fits form (bare spots) → map use_of (uses (behind_head form spots)) ≡ form_uses form }
 {
     match build_words(words) {
         Some(BuildCommand { fuel, lid }) => build(alloc, lid, fuel, files, out, err),

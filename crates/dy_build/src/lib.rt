@@ -3,6 +3,7 @@
 
 mod command;
 mod layout;
+mod point;
 mod refused;
 mod run;
 mod source;

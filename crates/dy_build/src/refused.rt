@@ -4,6 +4,7 @@ ghost use Rattle.std.specs.Prelude.{◌≡◌, [], ◌∷◌, ◌++◌, IfOk, On
 ghost use Rattle.dy_build.specs.Refusals.{kind_text, position_text, spaced, shown_text, refusal_line, no_file, syntax, no_binding};
 ghost use Rattle.dy_build.specs.Lines.{file_fault_line, unhandled_line, out_of_fuel_line};
 
+use crate::point::Point;
 use dy_base::{Items, Kind, Text};
 use itoa::Buffer;
 use std::alloc::{AllocError, Global};
@@ -46,14 +47,15 @@ impl Refused {
         })
     }
 
-    /// A name has no binding, and no place of it is known.
+    /// The name at this place has no binding.
     pub(crate) fn no_binding(
         alloc: Global,
         subject: &[u8],
         file: &[u8],
+        point: Point,
         name: Text,
     ) -> Result<Refused, AllocError>
-        ensures { IfOk result (λ refused. refused ≡ no_binding subject.now file.now name) }
+        ensures { IfOk result (λ refused. refused ≡ no_binding subject.now file.now point name) }
     {
         let mut shown = Items::new(alloc);
         shown.push(name)?;
@@ -62,24 +64,29 @@ impl Refused {
             subject: Text::of(alloc, subject)?,
             position: Some(Position {
                 file: Text::of(alloc, file)?,
-                line: 1,
-                column: 1,
+                line: point.line,
+                column: point.column,
             }),
             shown,
         })
     }
 
-    /// A file is not in the grammar, and no place in it is known.
-    pub(crate) fn syntax(alloc: Global, subject: &[u8], file: &[u8]) -> Result<Refused, AllocError>
-        ensures { IfOk result (λ refused. refused ≡ syntax subject.now file.now) }
+    /// At this place a file is not in the grammar.
+    pub(crate) fn syntax(
+        alloc: Global,
+        subject: &[u8],
+        file: &[u8],
+        point: Point,
+    ) -> Result<Refused, AllocError>
+        ensures { IfOk result (λ refused. refused ≡ syntax subject.now file.now point) }
     {
         Ok(Refused {
             kind: Kind::Syntax,
             subject: Text::of(alloc, subject)?,
             position: Some(Position {
                 file: Text::of(alloc, file)?,
-                line: 1,
-                column: 1,
+                line: point.line,
+                column: point.column,
             }),
             shown: Items::new(alloc),
         })

@@ -1,19 +1,22 @@
 //! The sources of a library, read and judged.
 
-ghost use Rattle.std.specs.Prelude.{◌≡◌, ◌≤◌, IfOk, IfErr, Some, IsTrue, map};
-ghost use Rattle.dy_build.specs.Forms.{seen_form};
+ghost use Rattle.std.specs.Prelude.{◌≡◌, ◌≤◌, IfOk, IfErr, Some, IsTrue};
 ghost use Rattle.dy_io.specs.Causes.{Rose};
 ghost use Rattle.dy_io.specs.Files.{FileMap};
 ghost use Rattle.dy_build.specs.Layout.{is_file_name};
+ghost use Rattle.dy_build.specs.Points.{start};
+ghost use Rattle.dy_build.specs.Refusals.{syntax};
 ghost use Rattle.dy_build.specs.Parts.{seen_parts};
-ghost use Rattle.dy_build.specs.Outcome.{source_of, source_at, judged_forms, forms_in, is_library_source, judged_parts, verdict};
+ghost use Rattle.dy_build.specs.Outcome.{source_of, source_at, judged_spots, judged_forms, is_library_source, judged_parts, verdict};
 ghost use Rattle.dy_build.specs.Judged.{seen_source, Interrupts, Fails, Misses, Judges, IsPlain};
 
 use crate::layout::{LidParts, body_of, is_library_file, read_lid, source_name, with_line_feeds};
+use crate::point::{point_at, start};
 use crate::refused::Refused;
-use crate::text::form::Form;
-use crate::text::names::{Finding, methods_apart, names_found};
-use crate::text::reading::read_text;
+use crate::text::lexing::spots_of;
+use crate::text::names::{Finding, file_found, methods_of};
+use crate::text::reading::read_spots;
+use crate::text::token::Spot;
 use crate::text::translate::program_of;
 use dy_base::Text;
 use dy_io::{Files, Found, ReadFail};
@@ -81,44 +84,51 @@ fn read_source<F: Files>(alloc: Global, files: &mut F, name: &str) -> Result<Sou
     }
 }
 
-/// The program of a library whose second file has these forms.
-fn named_program(alloc: Global, library: &[u8], file: &str, forms: &[Form]) -> Result<Program, Halt>
-    ensures verdict { Judges result (judged_forms library.now file.now (Some (map seen_form forms.now))) }
+/// The program of a library whose second file is this text, of whose body these are the tokens.
+#[tactic(auto, using(crate::proofs::Findings::file_is))]
+fn spots_program(
+    alloc: Global,
+    library: &[u8],
+    file: &[u8],
+    text: &[u8],
+    spots: &[Spot],
+) -> Result<Program, Halt>
+    ensures verdict { Judges result (judged_spots library.now file.now text.now spots.now) }
     ensures refused { IfErr result IsPlain }
 {
-    if let Some(methods) = methods_apart(alloc, forms)? {
-        match names_found(alloc, &methods, forms)? {
-            Finding::Fine => return Ok(program_of(alloc, library, &methods, forms)?),
-            Finding::Unbound(name) => {
-                let why = Refused::no_binding(alloc, library, file.as_bytes(), name)?;
-                return Err(Halt::Refused(why));
-            }
-            Finding::Unfit => {}
+    let reading = read_spots(alloc, spots)?;
+    let methods = methods_of(alloc, &reading.forms)?;
+    let found = file_found(alloc, &methods, &reading, spots)?;
+    match found {
+        Finding::Fine => Ok(program_of(alloc, library, &methods, &reading.forms)?),
+        Finding::Unbound(name, left) => {
+            let point = point_at(text, left);
+            Err(Halt::Refused(Refused::no_binding(alloc, library, file, point, name)?))
+        }
+        Finding::Unfit(left) => {
+            let point = point_at(text, left);
+            Err(Halt::Refused(Refused::syntax(alloc, library, file, point)?))
         }
     }
-    let why = Refused::syntax(alloc, library, file.as_bytes())?;
-    Err(Halt::Refused(why))
 }
 
 /// The program of a library whose second file is this source.
 fn forms_program(
     alloc: Global,
     library: &[u8],
-    file: &str,
+    file: &[u8],
     source: &Source,
 ) -> Result<Program, Halt>
-    ensures verdict { Judges result (judged_forms library.now file.now (forms_in (seen_source source.now) library.now)) }
+    ensures verdict { Judges result (judged_forms library.now file.now (seen_source source.now)) }
     ensures refused { IfErr result IsPlain }
 {
     if let Source::Text(text) = source {
         if let Some(body) = body_of(text, library) {
-            if let Some(forms) = read_text(alloc, body)? {
-                return named_program(alloc, library, file, &forms);
-            }
+            let spots = spots_of(alloc, body)?;
+            return spots_program(alloc, library, file, text, &spots);
         }
     }
-    let why = Refused::syntax(alloc, library, file.as_bytes())?;
-    Err(Halt::Refused(why))
+    Err(Halt::Refused(Refused::syntax(alloc, library, file, start())?))
 }
 
 /// Whether the first file of a library is as it is to be.
@@ -161,11 +171,18 @@ fn parts_program<F: Files>(
         return Err(Halt::Refused(why));
     }
     if is_library_source(&first, library) {
-        forms_program(alloc, library, second_name.as_str(), &second)
+        forms_program(alloc, library, second_name.as_bytes(), &second)
     } else {
-        let why = Refused::syntax(alloc, library, first_name.as_bytes())?;
+        let why = Refused::syntax(alloc, library, first_name.as_bytes(), start())?;
         Err(Halt::Refused(why))
     }
+}
+
+/// A LID file is out of form. Its own name is the subject, since no library is known.
+fn lid_fault(alloc: Global, lid: &[u8]) -> Result<Refused, AllocError>
+    ensures { IfOk result (λ why. why ≡ syntax lid.now lid.now start) }
+{
+    Refused::syntax(alloc, lid, lid, start())
 }
 
 /// The program of the library of a LID file, or why there is none: an absent file is told before a
@@ -187,14 +204,10 @@ pub(crate) fn read_program<F: Files>(
             let why = Refused::no_file(alloc, lid.as_bytes(), lid.as_bytes())?;
             Err(Halt::Refused(why))
         }
-        Source::TooLong => Err(Halt::Refused(Refused::syntax(
-            alloc,
-            lid.as_bytes(),
-            lid.as_bytes(),
-        )?)),
+        Source::TooLong => Err(Halt::Refused(lid_fault(alloc, lid.as_bytes())?)),
         Source::Text(text) => match read_lid(&text) {
             Some(parts) => parts_program(alloc, files, lid, &parts),
-            None => Err(Halt::Refused(Refused::syntax(alloc, lid.as_bytes(), lid.as_bytes())?)),
+            None => Err(Halt::Refused(lid_fault(alloc, lid.as_bytes())?)),
         },
     }
 }

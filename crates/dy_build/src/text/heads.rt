@@ -1,7 +1,7 @@
 //! What was read of a form once a token that stands around its trees was read.
 
 ghost use Rattle.std.specs.Prelude.{◌≡◌, IfOk, option_map};
-ghost use Rattle.dy_build.specs.Reading.{at_form, after_named, after_opened, after_directed, after_defines, after_methods, after_titled, after_listed, after_filled, after_form, seen_reader};
+ghost use Rattle.dy_build.specs.Reading.{at_form, after_named, after_opened, after_directed, after_defines, after_methods, after_titled, after_listed, after_filled, seen_reader};
 
 use crate::text::place::{Place, State};
 use crate::text::token::Token;
@@ -93,15 +93,6 @@ pub(crate) fn after_filled(name: Text, parameter: Text, token: &Token) -> Option
 {
     match token {
         Token::Close => Some(State::Wants(Place::Body(name, parameter))),
-        _ => None,
-    }
-}
-
-pub(crate) fn after_form(token: &Token) -> Option<State>
-    ensures { option_map seen_reader result ≡ after_form token.now }
-{
-    match token {
-        Token::Semicolon => Some(State::Begins),
         _ => None,
     }
 }

@@ -1,13 +1,13 @@
 //! The tokens of a text.
 
 ghost use Rattle.std.specs.Prelude.{◌≡◌, ◌≤◌, ◌<◌, ◌+◌, ◌-◌, ◌∷◌, length, IfOk, option_map, pos};
-ghost use Rattle.dy_build.specs.Lexing.{class_of, number_of, piece_of, word_token, number_piece, string_piece, equal_piece, graphic_piece, piece_in, tokens_of, IsWithin};
+ghost use Rattle.dy_build.specs.Lexing.{class_of, number_of, piece_of, word_token, number_piece, string_piece, equal_piece, graphic_piece, piece_in, spots_of, IsWithin};
 
 use crate::layout::is_name;
 use crate::text::bytes::{
     begins_with_equal_sign, begins_with_letter, begins_with_word_byte, digits_len, word_len,
 };
-use crate::text::token::Token;
+use crate::text::token::{Spot, Token};
 use dy_base::Text;
 use std::alloc::{AllocError, Global};
 
@@ -182,23 +182,28 @@ fn piece_at(alloc: Global, text: &[u8]) -> Result<Piece, AllocError>
     }
 }
 
-/// The tokens of a text, if it consists of tokens.
-pub(crate) fn tokens_of(alloc: Global, text: &[u8]) -> Result<Option<Vec<Token>>, AllocError>
-    ensures { IfOk result (λ tokens. option_map (λ v. v.items) tokens ≡ tokens_of text.now) }
+/// The tokens of a text, up to what begins no token, and where they stand.
+pub(crate) fn spots_of(alloc: Global, text: &[u8]) -> Result<Vec<Spot>, AllocError>
+    ensures { IfOk result (λ spots. spots.items ≡ spots_of text.now) }
 {
-    let mut tokens = Vec::new(alloc);
+    let mut spots = Vec::new(alloc);
     let mut rest = text;
     while 0 < rest.len() {
+        let left = rest.len();
         let (_, bytes) = rest.split_at(1);
         match piece_at(alloc, rest)? {
-            Piece::Nothing => return Ok(None),
+            Piece::Nothing => {
+                let token = Token::Unknown;
+                spots.push(Spot { token, left })?;
+                return Ok(spots);
+            }
             Piece::Skipped => rest = bytes,
             Piece::Taken(token, more) => {
-                tokens.push(token)?;
+                spots.push(Spot { token, left })?;
                 let (_, after) = bytes.split_at(more);
                 rest = after;
             }
         }
     }
-    Ok(Some(tokens))
+    Ok(spots)
 }

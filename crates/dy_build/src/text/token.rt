@@ -30,6 +30,16 @@ pub(crate) enum Token {
     Times,
     Less,
     Equal,
+    /// What begins no token.
+    Unknown,
+}
+
+/// A token, and where it stands in its text.
+#[derive(Debug, Drop)]
+pub(crate) struct Spot {
+    pub(crate) token: Token,
+    /// How many bytes of the text are left where it begins.
+    pub(crate) left: usize,
 }
 
 /// What a token does to the groups that are open.

@@ -172,7 +172,8 @@ fn computes(rt: HostRuntime) -> Result<(), Fail> {
 
 #[test]
 fn a_name_without_a_binding_is_told(rt: HostRuntime) -> Result<(), Fail> {
-    let line = b"refused hello: 18 Unbound at hello.dylan:1:1: k\n";
-    check(&rt, b"format-out(\"%d\\n\", 1 + k);", 2, b"", line)?;
-    check(&rt, b"define method f (n) k(n) + j end;", 2, b"", line)
+    let alone = b"refused hello: 18 Unbound at hello.dylan:3:24: k\n";
+    check(&rt, b"format-out(\"%d\\n\", 1 + k);", 2, b"", alone)?;
+    let called = b"refused hello: 18 Unbound at hello.dylan:3:21: k\n";
+    check(&rt, b"define method f (n) k(n) + j end;", 2, b"", called)
 }
