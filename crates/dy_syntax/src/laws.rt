@@ -1,0 +1,91 @@
+//! Laws of the grammar.
+
+ghost use Rattle.std.specs.Prelude.{◌≡◌, Bool, true, List, Option, Some};
+ghost use Rattle.dy_tree.specs.Fragments.{SeenFragment, SeenFragments, row};
+ghost use Rattle.dy_syntax.specs.ConstantTrees.{Constant};
+ghost use Rattle.dy_syntax.specs.Trees.{Tree, Argument, ItemTree, body_of};
+ghost use Rattle.dy_syntax.specs.Roles.{Splitting, nothing};
+ghost use Rattle.dy_syntax.specs.Expressions.{Derives, expression, arguments, a_body};
+ghost use Rattle.dy_syntax.specs.Fragments.{expression_of, passed_of, body_of_fragments, items_of};
+ghost use Rattle.dy_syntax.specs.Arguments.{is_single};
+ghost use Rattle.dy_syntax.specs.Writing.{written, written_body};
+ghost use Rattle.dy_syntax.specs.Constants.{IsConstant, in_list, in_vector};
+ghost use Rattle.dy_syntax.specs.ConstantReading.{Inside, inside, list_in, vector_in};
+ghost use Rattle.dy_syntax.specs.Types.{TypeTree, a_type, IsType, TargetTree, IsTarget};
+ghost use Rattle.dy_syntax.specs.TypeReading.{type_items, target_items};
+ghost use Rattle.dy_syntax.specs.TypeWriting.{written_type, written_target};
+ghost use Rattle.dy_syntax.specs.Forms.{FormTree, IsForm};
+ghost use Rattle.dy_syntax.specs.FormReading.{form_of};
+ghost use Rattle.dy_syntax.specs.FormWriting.{written_form};
+
+/// What holds of the expressions that fragments stand for.
+pub fn expression_laws()
+    // What is read is derived.
+    ensures reads { (words : Splitting) (fragments : List SeenFragment) (tree : Tree) → expression_of words fragments ≡ Some tree → Derives words (expression tree) fragments }
+    // What is derived is read.
+    ensures all { (words : Splitting) (fragments : List SeenFragment) (tree : Tree) → Derives words (expression tree) fragments → expression_of words fragments ≡ Some tree }
+    // No fragments stand for two expressions.
+    ensures one { (words : Splitting) (fragments : List SeenFragment) (tree other : Tree) → Derives words (expression tree) fragments → Derives words (expression other) fragments → tree ≡ other }
+    // The same of the arguments of a call.
+    ensures reads_arguments { (fragments : List SeenFragment) (passed : List Argument) → passed_of fragments ≡ Some passed → Derives nothing (arguments passed) fragments }
+    ensures all_arguments { (fragments : List SeenFragment) (passed : List Argument) → Derives nothing (arguments passed) fragments → passed_of fragments ≡ Some passed }
+    ensures one_arguments { (fragments : List SeenFragment) (passed others : List Argument) → Derives nothing (arguments passed) fragments → Derives nothing (arguments others) fragments → passed ≡ others }
+    // What a tree is written as stands for the tree, whatever words split there.
+    ensures writes { (words others : Splitting) (fragments : List SeenFragment) (tree : Tree) → Derives words (expression tree) fragments → Derives others (expression tree) (written tree) }
+    // What is written is read again.
+    ensures again { (words others : Splitting) (fragments : List SeenFragment) (tree : Tree) → expression_of words fragments ≡ Some tree → expression_of others (written tree) ≡ Some tree }
+    // Where the arguments of a call are one expression, a test of their fragments says so.
+    ensures single { (inner : SeenFragments) (tree : Tree) → Derives nothing (expression tree) (row inner) → is_single (row inner) ≡ true }
+{}
+
+/// What holds of the bodies that fragments stand for.
+pub fn body_laws()
+    // What is read is derived.
+    ensures reads { (words : Splitting) (fragments : List SeenFragment) (trees : List ItemTree) → body_of_fragments words fragments ≡ Some trees → Derives words (a_body trees) fragments }
+    // What is derived is read.
+    ensures all { (words : Splitting) (fragments : List SeenFragment) (trees : List ItemTree) → Derives words (a_body trees) fragments → body_of_fragments words fragments ≡ Some trees }
+    // No fragments stand for two bodies.
+    ensures one { (words : Splitting) (fragments : List SeenFragment) (trees others : List ItemTree) → Derives words (a_body trees) fragments → Derives words (a_body others) fragments → trees ≡ others }
+    // What a body is written as stands for it.
+    ensures writes { (words : Splitting) (fragments : List SeenFragment) (trees : List ItemTree) → Derives words (a_body trees) fragments → Derives words (a_body trees) (written_body (body_of trees)) }
+{}
+
+/// What holds of the types and of what a binding binds.
+pub fn type_laws()
+    // What is read as a type is one, and what is a type is read as it.
+    ensures reads { (fragments : List SeenFragment) (type : TypeTree) → type_items (items_of fragments) ≡ Some type → IsType (a_type type) fragments }
+    ensures all { (fragments : List SeenFragment) (type : TypeTree) → IsType (a_type type) fragments → type_items (items_of fragments) ≡ Some type }
+    // No fragments stand for two types.
+    ensures one { (fragments : List SeenFragment) (type other : TypeTree) → IsType (a_type type) fragments → IsType (a_type other) fragments → type ≡ other }
+    // What a type is written as stands for it.
+    ensures writes { (fragments : List SeenFragment) (type : TypeTree) → IsType (a_type type) fragments → IsType (a_type type) (written_type type) }
+    // The same of what a binding binds.
+    ensures reads_targets { (fragments : List SeenFragment) (target : TargetTree) → target_items (items_of fragments) ≡ Some target → IsTarget target fragments }
+    ensures all_targets { (fragments : List SeenFragment) (target : TargetTree) → IsTarget target fragments → target_items (items_of fragments) ≡ Some target }
+    ensures one_target { (fragments : List SeenFragment) (target other : TargetTree) → IsTarget target fragments → IsTarget other fragments → target ≡ other }
+    ensures writes_targets { (fragments : List SeenFragment) (target : TargetTree) → IsTarget target fragments → IsTarget target (written_target target) }
+{}
+
+/// What holds of the forms that fragments stand for.
+pub fn form_laws()
+    // What is read is a form.
+    ensures reads { (fragments : List SeenFragment) (form : FormTree) → form_of fragments ≡ Some form → IsForm form fragments }
+    // What is a form is read.
+    ensures all { (fragments : List SeenFragment) (form : FormTree) → IsForm form fragments → form_of fragments ≡ Some form }
+    // No fragments stand for two forms.
+    ensures one { (fragments : List SeenFragment) (form other : FormTree) → IsForm form fragments → IsForm other fragments → form ≡ other }
+    // What a form is written as stands for it.
+    ensures writes { (fragments : List SeenFragment) (form : FormTree) → IsForm form fragments → IsForm form (written_form form) }
+    // What is written is read again.
+    ensures again { (fragments : List SeenFragment) (form : FormTree) → form_of fragments ≡ Some form → form_of (written_form form) ≡ Some form }
+{}
+
+/// What holds of lists and vectors of literals.
+pub fn constant_laws()
+    // What is read inside of a list, and what follows its dot, is derived, and what is derived is read.
+    ensures reads_list { (inner : SeenFragments) (found : Inside) → list_in inner ≡ Some found → IsConstant (in_list found.items found.last) (row inner) }
+    ensures all_lists { (inner : SeenFragments) (items : List Constant) (last : Option Constant) → IsConstant (in_list items last) (row inner) → list_in inner ≡ Some (inside items last) }
+    // The same inside of a vector.
+    ensures reads_vector { (inner : SeenFragments) (items : List Constant) → vector_in inner ≡ Some items → IsConstant (in_vector items) (row inner) }
+    ensures all_vectors { (inner : SeenFragments) (items : List Constant) → IsConstant (in_vector items) (row inner) → vector_in inner ≡ Some items }
+{}
