@@ -3,13 +3,12 @@ use Rattle.std.proofs.Common.{◌≡◌, Bool, true, false, List, [], ◌∷◌,
 use Rattle.dy_tree.specs.declared.token.Token.{Token}
 use Rattle.dy_tree.specs.Fragments.{SeenFragment, one, group, SeenFragments, row}
 use Rattle.dy_syntax.specs.Types.{TypeTree, a_type, IsType, by_name, by_singleton, by_union, by_limits}
-use Rattle.dy_syntax.specs.Trees.{Tree, block_tree, ItemTree, body_of, BlockClause, afterwards_clause, cleanup_clause, exception_clause, block_clauses_of}
-use Rattle.dy_syntax.specs.Roles.{Role, named, colons, role_of, Splitting, endings, Splitter, afterwards_word, cleanup_word, exception_word, splitter_of, splits, block_word, Bracket, round, bracket_of}
-use Rattle.dy_syntax.specs.Expressions.{IsExit, no_exit, an_exit, Catches, without_variable, with_variable, suit_block}
-use Rattle.dy_syntax.specs.Cutting.{Caught, Item, Piece, Pieces, is_splitter, cut, with_others, Front, front_in, headed, word_of}
+use Rattle.dy_syntax.specs.Trees.{block_tree, ItemTree, body_of, BlockClause, afterwards_clause, cleanup_clause, exception_clause, block_clauses_of}
+use Rattle.dy_syntax.specs.Roles.{Role, named, colons, role_of, endings, Splitter, afterwards_word, cleanup_word, exception_word, splitter_of, splits, block_word, Bracket, round, bracket_of}
+use Rattle.dy_syntax.specs.Productions.{IsExit, no_exit, an_exit, Catches, without_variable, with_variable, suit_block}
+use Rattle.dy_syntax.specs.Cutting.{Caught, Piece, Pieces, is_splitter, cut, with_others, Front, front_in, headed}
 use Rattle.dy_syntax.specs.TypeReading.{type_items, is_colons}
-use Rattle.dy_syntax.specs.Bodies.{body_items}
-use Rattle.dy_syntax.specs.Blocks.{caught_of, caught_named, caught_with, caught_if, caught_items, exit_token, exit_in, exit_inside, afterwards_of, cleanup_of, exception_of, exception_with, exception_items, block_clause_at, block_clauses_in, block_of, block_if, block_suits, block_body, block_pieces, block_items}
+use Rattle.dy_syntax.specs.Blocks.{caught_of, caught_named, caught_if, caught_items, exit_in, afterwards_of, cleanup_of, exception_of, exception_with, exception_items, block_clause_at, block_clauses_in, block_if, block_suits, block_body, block_pieces, block_items}
 use Rattle.dy_syntax.specs.StatementReading.{statement_items}
 use Rattle.dy_syntax.specs.Fragments.{item_of, items_of, items_in}
 use Rattle.dy_syntax.proofs.Lists.{items_row}

@@ -3,10 +3,10 @@ use Rattle.std.proofs.Common.{◌≡◌, Bool, true, false, List, [], ◌∷◌,
 use Rattle.dy_tree.specs.declared.token.Token.{Token}
 use Rattle.dy_tree.specs.Fragments.{SeenFragment, one, group, SeenFragments, row}
 use Rattle.dy_syntax.specs.Types.{TypeTree, a_type, IsType}
-use Rattle.dy_syntax.specs.Trees.{Tree, ItemTree, body_of, BlockClause, afterwards_clause, cleanup_clause, exception_clause}
-use Rattle.dy_syntax.specs.Roles.{Role, named, colons, role_of, Splitting, endings, Splitter, afterwards_word, cleanup_word, exception_word, no_splitter, splitter_of, block_word, Bracket, round, statement, bracket_of}
-use Rattle.dy_syntax.specs.Expressions.{IsExit, no_exit, an_exit, Catches, without_variable, with_variable, suit_block, leaf, a_body, block_clauses, Derives, block_leaf, no_block_clause, by_afterwards, by_cleanup, by_exception}
-use Rattle.dy_syntax.specs.Cutting.{Caught, Item, Piece, Pieces, is_splitter, cut, with_others, fragments_in, Front, headed, word_of}
+use Rattle.dy_syntax.specs.Trees.{Tree, ItemTree, BlockClause}
+use Rattle.dy_syntax.specs.Roles.{Role, named, colons, role_of, Splitting, endings, Splitter, afterwards_word, cleanup_word, exception_word, splitter_of, block_word, round, statement, bracket_of}
+use Rattle.dy_syntax.specs.Productions.{IsExit, no_exit, an_exit, Catches, without_variable, with_variable, suit_block, leaf, a_body, block_clauses, Derives, block_leaf, no_block_clause, by_afterwards, by_cleanup, by_exception}
+use Rattle.dy_syntax.specs.Cutting.{Caught, Item, Piece, Pieces, is_splitter, cut, fragments_in, headed, word_of}
 use Rattle.dy_syntax.specs.TypeReading.{type_items, is_colons}
 use Rattle.dy_syntax.specs.Bodies.{body_items}
 use Rattle.dy_syntax.specs.Blocks.{caught_of, caught_named, caught_with, caught_if, caught_items, exit_token, exit_in, exit_inside, afterwards_of, cleanup_of, exception_of, exception_with, exception_items, block_clause_at, block_clauses_in, block_of, block_if, block_suits, block_body, block_pieces, block_items}
@@ -15,7 +15,7 @@ use Rattle.dy_syntax.proofs.Sound.{ItemsSound}
 use Rattle.dy_syntax.proofs.Cuts.{with_both, behind_in, Separates, cut_sound}
 use Rattle.dy_syntax.proofs.TypeSound.{type_sound, colons_token}
 use Rattle.dy_syntax.proofs.BodySound.{body_sound}
-use Rattle.dy_syntax.proofs.HeadSound.{HasBrackets, headed_sound, word_token}
+use Rattle.dy_syntax.proofs.HeadSound.{headed_sound, word_token}
 
 abbrev Fragments : Type 0
 Fragments = List SeenFragment

@@ -1,22 +1,20 @@
 -- What is derived as a body is read.
-use Rattle.std.proofs.Common.{◌≡◌, Bool, true, false, not, ◌&&◌, ◌||◌, codes, List, [], ◌∷◌, ◌++◌, Option, Some, None, map, option_map, option_and_then, refl, sym, ap, subst, ◌∙◌, append_assoc}
-use Rattle.std.proofs.lemmas.List.{append-nil, map-append}
+use Rattle.std.proofs.Common.{◌≡◌, Bool, true, false, not, ◌&&◌, ◌||◌, codes, List, [], ◌∷◌, ◌++◌, Option, Some, option_map, option_and_then, refl, sym, ap, subst, ◌∙◌, append_assoc}
 use Rattle.dy_tree.specs.declared.token.Token.{Token}
-use Rattle.dy_tree.specs.Fragments.{SeenFragment, one, group, SeenFragments, no_fragment, row}
-use Rattle.dy_syntax.specs.Operators.{Guard}
-use Rattle.dy_syntax.specs.Trees.{Tree, begin_tree, if_tree, guarded, ItemTree, let_item, handler_item, expression_item, body_of, Alternative, alternative, alternatives_of, Otherwise, no_otherwise, otherwise, Arm, local_item, LocalMethod, methods_of}
+use Rattle.dy_tree.specs.Fragments.{SeenFragment, one, group, SeenFragments, no_fragment}
+use Rattle.dy_syntax.specs.Trees.{Tree, ItemTree, let_item, handler_item, expression_item, Alternative, Otherwise, no_otherwise, Arm, local_item, LocalMethod, methods_of}
 use Rattle.std.specs.List.{list_any}
 use Rattle.dy_syntax.specs.Operators.{power, product, sum, comparison, logical}
 use Rattle.dy_syntax.specs.Types.{is_comparison, is_equals, TypeTree, a_type, IsType, is_splitting, binds_plainly, TargetTree, IsTarget, by_variable, by_nothing, by_brackets, untyped, typed}
-use Rattle.dy_syntax.specs.Roles.{Role, operator, named, colons, lets, handlers, is_same, semicolon, role_of, Splitting, nothing, branches, Splitter, else_word, elseif_word, splitter_of, splits, Keyword, begin_word, if_word, guard_word, Bracket, round, statement, bracket_of, locals, comma, method_word}
-use Rattle.dy_syntax.specs.Cutting.{Sides, Item, Piece, Pieces, is_semicolon, is_semicolon_role, is_let, is_splitter, cut, with_others, each, each_other, without_end, without_if, is_arrow, NamedFound, cut_if}
-use Rattle.dy_syntax.specs.Reading.{State, whole, wants, Outer, has, tree_of, in_brackets, group_at_operand, after_all, expression_items}
-use Rattle.dy_syntax.specs.Bodies.{ItemFront, let_front, other_front, front_by, front_of_item, is_equals_at, is_handler_role, is_handler, let_of, handler_of, let_with, handler_with, bound_at, bound_from, let_if, let_sides, item_by, item_items, nonempty_body, body_items, local_front, method_tree_of, method_in, method_at, method_alone, local_of}
-use Rattle.dy_syntax.specs.StatementReading.{Tested, tested_in, tested, Others, other_at, others_of, guarded_items, if_items, if_body, if_pieces, statement_items, with_test, with_body}
-use Rattle.dy_syntax.specs.Fragments.{item_of, items_of, items_in, expression_in, tree_inside}
+use Rattle.dy_syntax.specs.Roles.{Role, operator, named, colons, lets, handlers, is_same, semicolon, role_of, Splitting, branches, splits, Bracket, statement, bracket_of, locals, comma, method_word}
+use Rattle.dy_syntax.specs.Cutting.{Sides, Item, Piece, Pieces, is_semicolon, is_let, is_splitter, cut, with_others, each, without_end, without_if, is_arrow, NamedFound, cut_if}
+use Rattle.dy_syntax.specs.Reading.{State, whole, wants, tree_of, expression_items}
+use Rattle.dy_syntax.specs.Bodies.{ItemFront, let_front, other_front, front_by, front_of_item, is_equals_at, is_handler_role, is_handler, let_of, handler_of, let_with, handler_with, bound_at, bound_from, let_if, let_sides, item_by, item_items, nonempty_body, body_items, local_front, method_tree_of, method_in, method_alone, local_of}
+use Rattle.dy_syntax.specs.StatementReading.{others_of}
+use Rattle.dy_syntax.specs.Fragments.{item_of, items_of}
 use Rattle.dy_syntax.proofs.TypeComplete.{is_quiet, quiet_role, Quiet, quiet_no_let, type_quiet, variable_quiet, whole_type_reads, type_complete, target_complete}
-use Rattle.dy_syntax.proofs.Lists.{fragments_back, reads, some_one, items_row}
-use Rattle.dy_syntax.proofs.Cuts.{Never, first_cut_on, Closed, ended, joined, cut_end, cut_on, closed_on}
+use Rattle.dy_syntax.proofs.Lists.{fragments_back, reads, some_one}
+use Rattle.dy_syntax.proofs.Cuts.{Never, first_cut_on, Closed, cut_end, closed_on}
 use Rattle.dy_syntax.proofs.Rows.{joined_on, row_last, row_more}
 use Rattle.dy_syntax.proofs.Inner.{inner_role, item_role, Inner, is_inner, inner_if, reads_inner, Separating, semicolons, splitters, splits_no_splitter, inner_closed, arrows, inner_no_remains}
 use Rattle.dy_syntax.specs.Choices.{is_remains, PieceKind, item_piece, kind_at, kind_of, Choices, choices_of, with_lead, choice_at, choices_behind, choices_pieces}

@@ -1,21 +1,19 @@
 -- What is read as a body is derived.
-use Rattle.std.proofs.Common.{◌≡◌, Bool, true, false, List, [], ◌∷◌, ◌++◌, Option, Some, None, option_map, option_and_then, refl, sym, ap, subst, ◌∙◌}
-use Rattle.std.proofs.lemmas.List.{append-nil}
+use Rattle.std.proofs.Common.{◌≡◌, Bool, true, false, List, [], ◌∷◌, ◌++◌, Option, Some, option_map, option_and_then, refl, sym, ap, subst, ◌∙◌}
 use Rattle.dy_tree.specs.declared.token.Token.{Token}
 use Rattle.dy_tree.specs.Fragments.{SeenFragment, one, group, SeenFragments, row}
-use Rattle.dy_syntax.specs.Operators.{Guard}
-use Rattle.dy_syntax.specs.Trees.{Tree, begin_tree, if_tree, guarded, ItemTree, expression_item, body_of, Alternative, alternative, alternatives_of, Otherwise, no_otherwise, otherwise, LocalMethod}
+use Rattle.dy_syntax.specs.Trees.{Tree, ItemTree, expression_item, LocalMethod}
 use Rattle.dy_syntax.specs.Types.{is_equals, TypeTree, a_type, IsType, binds_plainly, TargetTree, IsTarget}
 use Rattle.dy_syntax.specs.TypeReading.{type_items, target_items}
-use Rattle.dy_syntax.specs.Roles.{Role, lets, handlers, semicolon, role_of, Splitting, nothing, branches, Splitter, else_word, elseif_word, no_splitter, splitter_of, Keyword, begin_word, if_word, guard_word, Bracket, round, statement, bracket_of, locals, method_word}
-use Rattle.dy_syntax.specs.Expressions.{leaf, expression, an_item, some_items, a_body, alternatives, Derives, begin_leaf, if_leaf, guarded_leaf, by_let, by_handler, by_expression, last_item, more_items, empty_body, separator_body, items_body, ended_body, no_alternatives, by_else, more_alternatives, local_methods, by_local, last_method, more_methods}
-use Rattle.dy_syntax.specs.Cutting.{Sides, first_cut, Item, Piece, Pieces, is_semicolon, is_semicolon_role, is_splitter, cut, each, without_end, without_if, fragments_in, NamedFound, Found}
+use Rattle.dy_syntax.specs.Roles.{Role, lets, handlers, semicolon, role_of, Splitting, nothing, Bracket, statement, bracket_of, locals, method_word}
+use Rattle.dy_syntax.specs.Productions.{expression, an_item, some_items, a_body, Derives, by_let, by_handler, by_expression, last_item, more_items, empty_body, separator_body, items_body, ended_body, local_methods, by_local, last_method, more_methods}
+use Rattle.dy_syntax.specs.Cutting.{Sides, first_cut, Item, is_semicolon, is_semicolon_role, cut, each, without_end, without_if, fragments_in, NamedFound, Found}
 use Rattle.dy_syntax.specs.Reading.{expression_items}
 use Rattle.dy_syntax.specs.Bodies.{ItemFront, let_front, other_front, front_by, front_of_item, is_equals_at, is_handler_role, is_handler, let_of, handler_of, let_with, handler_with, bound_at, bound_from, let_if, let_sides, item_by, item_items, nonempty_body, body_items, local_front, method_tree_of, method_in, method_at, method_alone, local_of}
 use Rattle.dy_syntax.proofs.Lists.{some_one, map_some, then_some}
-use Rattle.dy_syntax.proofs.Sound.{Holds, HoldsIf, ItemSound, ItemsSound, GroupSound, expression_sound, NamedIs}
+use Rattle.dy_syntax.proofs.Sound.{ItemsSound, GroupSound, expression_sound, NamedIs}
 use Rattle.dy_syntax.proofs.TypeSound.{type_sound, target_sound, comma_is}
-use Rattle.dy_syntax.proofs.Cuts.{AreSides, first_cut_sound, Separates, Row, row_sound, behind_in, pieces_in, cut_sound}
+use Rattle.dy_syntax.proofs.Cuts.{AreSides, first_cut_sound, Row, row_sound}
 use Rattle.dy_syntax.specs.Arguments.{is_comma_fragment}
 
 abbrev Fragments : Type 0

@@ -1,23 +1,22 @@
 -- What is derived as the arms of a case or a select is read.
 use Rattle.std.proofs.Common.{◌≡◌, ◌⊎◌, inl, inr, Bool, true, false, List, [], ◌∷◌, ◌++◌, Option, Some, None, option_map, option_and_then, refl, sym, ap, subst, ◌∙◌, append_assoc}
-use Rattle.std.proofs.lemmas.List.{append-nil}
 use Rattle.dy_tree.specs.declared.token.Token.{Token}
-use Rattle.dy_tree.specs.Fragments.{SeenFragment, one, group}
+use Rattle.dy_tree.specs.Fragments.{SeenFragment, one}
 use Rattle.dy_syntax.specs.Trees.{Tree, ItemTree, body_of, Otherwise, no_otherwise, otherwise, Arm, arm, tests_of}
-use Rattle.dy_syntax.specs.Roles.{comma, semicolon, arrow, remains, role_of, Splitting, nothing, tests, by_word, splitter_of, splits}
+use Rattle.dy_syntax.specs.Roles.{comma, semicolon, arrow, remains, role_of, nothing, tests, by_word, splitter_of, splits}
 use Rattle.dy_syntax.specs.Arguments.{is_comma_fragment}
-use Rattle.dy_syntax.specs.Expressions.{suits}
-use Rattle.dy_syntax.specs.Cutting.{Head, Item, Piece, Pieces, is_semicolon, is_let, is_arrow, is_splitter, cut, cut_if, each, without_end}
+use Rattle.dy_syntax.specs.Productions.{suits}
+use Rattle.dy_syntax.specs.Cutting.{Item, Pieces, is_semicolon, is_let, is_arrow, is_splitter, cut, cut_if, without_end}
 use Rattle.dy_syntax.specs.Reading.{State, whole, wants, tree_of, expression_items}
 use Rattle.dy_syntax.specs.Bodies.{item_items}
-use Rattle.dy_syntax.specs.Choices.{is_remains, PieceKind, item_piece, arm_piece, otherwise_piece, arrow_left, without_arrow, kind_behind, kind_at, kind_of, Choices, choices_of, no_choices, lead_before, body_with, tests_items, arm_of, arm_if, arm_with, last_of, last_with, choice_at, choices_behind, choices_pieces, finished_choices, some_arms_items, arms_items, head_alone, head_by, head_with, head_behind, head_pieces, head_items}
+use Rattle.dy_syntax.specs.Choices.{is_remains, PieceKind, arm_piece, arrow_left, without_arrow, kind_at, kind_of, Choices, choices_of, lead_before, body_with, tests_items, arm_of, arm_if, arm_with, last_of, last_with, choice_at, choices_behind, choices_pieces, finished_choices, some_arms_items, arms_items, head_alone, head_by, head_with, head_pieces, head_items}
 use Rattle.dy_syntax.specs.Fragments.{item_of, items_of}
-use Rattle.dy_syntax.proofs.Lists.{reads, some_one}
+use Rattle.dy_syntax.proofs.Lists.{reads}
 use Rattle.dy_syntax.proofs.Cuts.{Closed, ended, joined, cut_end, cut_on, cut_front, closed_on}
 use Rattle.dy_syntax.proofs.Rows.{items_append, joined_on, row_last, row_more}
-use Rattle.dy_syntax.proofs.Inner.{Inner, Separating, arrows, semicolons, splitters, reads_inner, inner_closed, inner_closed_by, inner_no_comma, inner_no_remains, item_role}
+use Rattle.dy_syntax.proofs.Inner.{Separating, arrows, semicolons, splitters, reads_inner, inner_closed, inner_closed_by, inner_no_comma, item_role}
 use Rattle.dy_syntax.proofs.TypeComplete.{comma_separates}
-use Rattle.dy_syntax.proofs.BodyComplete.{Open, Nonempty, Begins, begins_some, inner_begins, open_on, open_behind, nonempty_on, end_cut, semicolon_separates, expression_read, read_some, ItemRead, Leads, ItemsRead}
+use Rattle.dy_syntax.proofs.BodyComplete.{Open, Nonempty, Begins, inner_begins, open_on, open_behind, nonempty_on, end_cut, semicolon_separates, expression_read, read_some, Leads, ItemsRead}
 
 abbrev Fragments : Type 0
 Fragments = List SeenFragment

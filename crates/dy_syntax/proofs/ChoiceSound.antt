@@ -4,18 +4,18 @@ use Rattle.std.proofs.lemmas.List.{append-nil}
 use Rattle.dy_tree.specs.declared.token.Token.{Token}
 use Rattle.dy_tree.specs.Fragments.{SeenFragment, one, group}
 use Rattle.dy_syntax.specs.Trees.{Tree, ItemTree, body_of, Otherwise, no_otherwise, otherwise, Arm, arm, tests_of}
-use Rattle.dy_syntax.specs.Roles.{Role, comma, semicolon, arrow, remains, role_of, Splitting, nothing, tests, Splitter, by_word, splitter_of, splits, splits_as}
+use Rattle.dy_syntax.specs.Roles.{Role, arrow, remains, role_of, Splitting, nothing, tests, Splitter, by_word, splitter_of, splits, splits_as}
 use Rattle.dy_syntax.specs.Arguments.{is_comma_fragment}
-use Rattle.dy_syntax.specs.Expressions.{suits, expression, an_item, some_items, some_tests, open_body, choices, arms, head, Derives, last_item, more_items, one_test, more_tests, empty_open, items_open, last_arm, more_arms, last_choice, last_choice_arrow, no_arms, some_arms, ended_arms, by_identity, by_test}
-use Rattle.dy_syntax.specs.Cutting.{Head, Item, Piece, Pieces, is_semicolon, is_arrow, is_splitter, cut, each, without_end, fragments_in}
+use Rattle.dy_syntax.specs.Productions.{suits, expression, an_item, some_items, some_tests, open_body, choices, arms, head, Derives, last_item, more_items, one_test, more_tests, empty_open, items_open, last_arm, more_arms, last_choice, last_choice_arrow, no_arms, some_arms, ended_arms, by_identity, by_test}
+use Rattle.dy_syntax.specs.Cutting.{Head, Item, Piece, Pieces, is_semicolon, is_arrow, is_splitter, cut, without_end, fragments_in}
 use Rattle.dy_syntax.specs.Reading.{expression_items}
 use Rattle.dy_syntax.specs.Bodies.{item_items}
-use Rattle.dy_syntax.specs.Choices.{is_remains_role, is_remains, PieceKind, item_piece, arm_piece, otherwise_piece, no_piece, arrow_left, without_arrow, kind_behind, kind_at, kind_of, Choices, choices_of, no_choices, lead_before, with_lead, body_with, tests_items, arm_of, arm_if, arm_with, last_of, last_with, choice_at, choices_behind, choices_pieces, finished_lead, finished_choices, some_arms_items, arms_items, head_alone, head_by, head_with, head_behind, head_pieces, head_items}
+use Rattle.dy_syntax.specs.Choices.{is_remains_role, is_remains, PieceKind, item_piece, arm_piece, otherwise_piece, no_piece, arrow_left, without_arrow, kind_behind, kind_at, kind_of, Choices, lead_before, with_lead, body_with, tests_items, arm_of, arm_if, arm_with, last_of, last_with, choice_at, choices_behind, choices_pieces, finished_lead, finished_choices, some_arms_items, arms_items, head_alone, head_by, head_with, head_behind, head_items}
 use Rattle.dy_syntax.proofs.Lists.{some_one, map_some, then_some}
-use Rattle.dy_syntax.proofs.Sound.{ItemSound, ItemsSound, expression_sound}
+use Rattle.dy_syntax.proofs.Sound.{ItemsSound, expression_sound}
 use Rattle.dy_syntax.proofs.Cuts.{Row, row_sound, behind_in, Separates, cut_sound}
 use Rattle.dy_syntax.proofs.TypeSound.{comma_is}
-use Rattle.dy_syntax.proofs.BodySound.{item_sound, more_items_of, semicolon_is, semicolon_token, End, nothing_left_out, semicolon_left_out, end_of, sound_without}
+use Rattle.dy_syntax.proofs.BodySound.{item_sound, more_items_of, semicolon_is, End, nothing_left_out, semicolon_left_out, end_of, sound_without}
 use Rattle.dy_syntax.specs.Types.{is_arrow_role}
 
 abbrev Fragments : Type 0

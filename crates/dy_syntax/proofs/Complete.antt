@@ -11,9 +11,9 @@ use Rattle.dy_syntax.specs.ConstantReading.{Inside, inside, list_in, vector_in}
 use Rattle.dy_syntax.proofs.ConstantComplete.{list_complete, vector_complete}
 use Rattle.dy_syntax.specs.Roles.{Role, integer, character, string, boolean, symbol, named, operator, minus, tilde, assigns, dot, comma, other, role_of, precedence_of, Splitting, nothing, Bracket, round, square, hidden, sharp_round, sharp_square, special, bracket_of, positive, statement, begin_word, if_word, guard_word, branches, semicolon, arrow, colons, lets, locals, handlers, remains, case_word, select_word, tests, block_word, for_word, endings, steps, last_part, method_word, defines}
 use Rattle.dy_syntax.specs.Arguments.{begins_value, passes_two, is_symbol}
-use Rattle.dy_syntax.specs.Expressions.{Brackets, is_integer, Sort, leaf, operand, signed, level, expression, argument, some_arguments, arguments, Derives, integer_leaf, character_leaf, string_leaf, boolean_leaf, symbol_leaf, name_leaf, bracket_leaf, leaf_operand, call_operand, element_operand, member_operand, operand_signed, negative_signed, minus_signed, tilde_signed, signed_level, up_level, operation_level, level_expression, assignment_expression, keyword_argument, value_argument, one_argument, more_arguments, no_arguments, all_arguments, list_leaf, vector_leaf, an_item, some_items, a_body, alternatives, begin_leaf, guarded_leaf, if_leaf, by_let, by_handler, by_expression, last_item, more_items, empty_body, separator_body, items_body, ended_body, no_alternatives, by_else, more_alternatives, some_tests, open_body, choices, arms, head, case_leaf, select_leaf, one_test, more_tests, empty_open, items_open, last_arm, more_arms, last_choice, last_choice_arrow, no_arms, some_arms, ended_arms, by_identity, by_test, block_clauses, for_clause, range, for_clauses, for_head, ending_part, block_leaf, for_leaf, no_block_clause, by_afterwards, by_cleanup, by_exception, by_then, by_in, by_from, no_range, step_range, limit_range, last_clause, only_stop, more_clauses, empty_head, some_clauses, no_finally, by_finally, list_of, initial, key, more_keys, listed, brackets, signature, local_methods, method_leaf, no_initial, by_initial, plain_key, named_key, no_more_keys, all_keys, key_and_more, last_required, more_required, last_next, more_next, last_rest, more_rest, bare_keys, first_key, empty_brackets, some_listed, by_signature, by_local, last_method, more_methods}
-use Rattle.dy_syntax.specs.Reading.{Outer, whole, operated, under, assigned, Part, State, wants, counted, has, dotted, reduced, finished, under_sign, integer_part, settled, operates, assigns_to, behind, at_token, indexed, called, group_behind, group_at_operand, at_group, finished_part, tree_of, Passing, nothing_passed, passes_next, symbol_first, passing, with_last, arguments_in, arguments_at_end, fresh_role, fresh, at_separator, or_else, after_item, in_value, by_symbol, after_argument, after_all, after_passing, in_brackets, expression_items, passed_items}
-use Rattle.dy_syntax.specs.Fragments.{item_of, items_of, items_in, expression_in, passed_in, tree_inside, list_tree, vector_tree}
+use Rattle.dy_syntax.specs.Productions.{Brackets, is_integer, Sort, leaf, operand, signed, level, expression, argument, some_arguments, arguments, Derives, integer_leaf, character_leaf, string_leaf, boolean_leaf, symbol_leaf, name_leaf, bracket_leaf, leaf_operand, call_operand, element_operand, member_operand, operand_signed, negative_signed, minus_signed, tilde_signed, signed_level, up_level, operation_level, level_expression, assignment_expression, keyword_argument, value_argument, one_argument, more_arguments, no_arguments, all_arguments, list_leaf, vector_leaf, an_item, some_items, a_body, alternatives, begin_leaf, guarded_leaf, if_leaf, by_let, by_handler, by_expression, last_item, more_items, empty_body, separator_body, items_body, ended_body, no_alternatives, by_else, more_alternatives, some_tests, open_body, choices, arms, head, case_leaf, select_leaf, one_test, more_tests, empty_open, items_open, last_arm, more_arms, last_choice, last_choice_arrow, no_arms, some_arms, ended_arms, by_identity, by_test, block_clauses, for_clause, range, for_clauses, for_head, ending_part, block_leaf, for_leaf, no_block_clause, by_afterwards, by_cleanup, by_exception, by_then, by_in, by_from, no_range, step_range, limit_range, last_clause, only_stop, more_clauses, empty_head, some_clauses, no_finally, by_finally, list_of, initial, key, more_keys, listed, brackets, signature, local_methods, method_leaf, no_initial, by_initial, plain_key, named_key, no_more_keys, all_keys, key_and_more, last_required, more_required, last_next, more_next, last_rest, more_rest, bare_keys, first_key, empty_brackets, some_listed, by_signature, by_local, last_method, more_methods}
+use Rattle.dy_syntax.specs.Reading.{Outer, whole, operated, under, assigned, Part, State, wants, counted, has, dotted, reduced, finished, under_sign, integer_part, settled, operates, assigns_to, behind, at_token, indexed, called, group_behind, group_at_operand, at_group, finished_part, tree_of, Passing, nothing_passed, passes_next, symbol_first, passing, with_last, arguments_in, arguments_at_end, fresh_role, fresh, at_separator, or_else, after_item, in_value, by_symbol, after_argument, in_brackets, expression_items, passed_items}
+use Rattle.dy_syntax.specs.Fragments.{item_of, items_in, expression_in, passed_in, tree_inside, list_tree, vector_tree}
 use Rattle.dy_syntax.specs.Cutting.{Item}
 use Rattle.dy_syntax.proofs.Singles.{begins_read}
 use Rattle.dy_syntax.proofs.Outers.{Fits, Ends, NoNegative, fits_signed, ends_fits, fits_up, fits_stays, finished_reduced}

@@ -1,5 +1,5 @@
 -- Items that are cut at separators, and what the pieces stand for.
-use Rattle.std.proofs.Common.{◌≡◌, Bool, true, false, not, ◌&&◌, List, [], ◌∷◌, ◌++◌, Option, Some, None, map, option_map, option_and_then, refl, sym, ap, subst, ◌∙◌}
+use Rattle.std.proofs.Common.{◌≡◌, Bool, true, false, not, ◌&&◌, List, [], ◌∷◌, ◌++◌, Option, Some, None, option_map, refl, sym, ap, subst, ◌∙◌}
 use Rattle.std.proofs.lemmas.List.{append-nil}
 use Rattle.dy_tree.specs.Fragments.{SeenFragment}
 use Rattle.dy_syntax.specs.Cutting.{Item, Piece, Pieces, is_let, cut, cut_if, with_others, each, each_other, fragments_in, Ending, only_part, only_last, with_part, ending_at, ending_from, ending, Sides, with_before, sides_at, first_cut}

@@ -1,31 +1,30 @@
 -- What is a form is read as one.
-use Rattle.std.proofs.Common.{◌≡◌, ◌⊎◌, inl, inr, Bool, true, false, not, ◌&&◌, ◌||◌, codes, List, [], ◌∷◌, ◌++◌, map, Option, Some, None, option_map, option_and_then, refl, sym, ap, subst, ◌∙◌, append_assoc}
+use Rattle.std.proofs.Common.{◌≡◌, ◌⊎◌, inl, inr, Bool, true, false, not, ◌&&◌, ◌||◌, codes, List, [], ◌∷◌, ◌++◌, map, Option, Some, None, option_map, option_and_then, refl, sym, ap, subst, ◌∙◌}
 use Rattle.std.proofs.lemmas.List.{append-nil}
 use Rattle.dy_tree.specs.declared.token.Token.{Token}
 use Rattle.dy_tree.specs.Fragments.{SeenFragment, one, group, SeenFragments, row}
-use Rattle.dy_syntax.specs.Operators.{comparison}
-use Rattle.dy_syntax.specs.Trees.{Tree, MaybeTree, Listed, parameters_of, body_of, ItemTree}
-use Rattle.dy_syntax.specs.Roles.{Role, operator, named, symbol, boolean, comma, semicolon, defines, colons, role_of, nothing, Keyword, Bracket, round, statement, define_word, bracket_of, is_same}
-use Rattle.dy_syntax.specs.Types.{is_equals, TypeTree, some_types, IsType, VariableTree, IsVariable, untyped, typed, TargetTree, IsTarget, by_nothing, by_brackets, ResultTree, ResultsPart, apart, variable_apart, takes_brackets, several_results, one_result}
+use Rattle.dy_syntax.specs.Trees.{Tree, MaybeTree, Listed, parameters_of, ItemTree}
+use Rattle.dy_syntax.specs.Roles.{Role, named, symbol, boolean, comma, semicolon, defines, role_of, nothing, Bracket, round, statement, define_word, bracket_of, is_same}
+use Rattle.dy_syntax.specs.Types.{is_equals, TypeTree, some_types, IsType, VariableTree, IsVariable, TargetTree, IsTarget, ResultTree, ResultsPart, apart, variable_apart, takes_brackets, several_results, one_result}
 use Rattle.dy_syntax.specs.Arguments.{is_comma, is_comma_fragment}
-use Rattle.dy_syntax.specs.Expressions.{Derives, expression, initial, brackets, signature, no_initial, by_initial}
-use Rattle.dy_syntax.specs.Cutting.{NamedFound, Item, Piece, Pieces, is_semicolon_role, is_semicolon, is_let, cut, each_other, with_others, Sides, first_cut, fragments_in, Front, headed}
-use Rattle.dy_syntax.specs.TypeReading.{VariableFront, variable_front, target_items, types_items}
-use Rattle.dy_syntax.specs.Reading.{State, whole, wants, tree_of, after_item, expression_items, at_operand, group_at_operand}
+use Rattle.dy_syntax.specs.Productions.{Derives, expression, initial, brackets, signature, no_initial, by_initial}
+use Rattle.dy_syntax.specs.Cutting.{Item, Piece, Pieces, is_semicolon_role, is_semicolon, is_let, cut, each_other, with_others, Sides, fragments_in, Front, headed}
+use Rattle.dy_syntax.specs.TypeReading.{VariableFront, variable_front, types_items}
+use Rattle.dy_syntax.specs.Reading.{State, whole, wants, tree_of, expression_items, at_operand, group_at_operand}
 use Rattle.dy_syntax.specs.Bodies.{is_equals_at}
-use Rattle.dy_syntax.specs.Signatures.{ResultsFront, results_front, initial_items, named_items, listed_items, named_of, method_of, method_items, named_with}
-use Rattle.dy_syntax.specs.Fragments.{item_of, items_in, items_of, expression_of, tree_inside}
-use Rattle.dy_syntax.specs.Definitions.{DefineWord, open_word, sealed_word, abstract_word, concrete_word, primary_word, free_word, inlining_word, class_definition, method_definition, function_definition, generic_definition, constant_definition, variable_definition, domain_definition, define_word_of, is_definition, is_definition_word, all_are, is_class_adjective, is_open, is_sealed, is_inlining, suit_class, suit_function, suit_method, suit_generic, suit_domain, suit_binding, SlotWord, constant_slot, allocation, slot_word, slot_word_by, slot_word_of, is_slot, is_slot_word, is_constant_slot, is_allocation, suit_slot, OptionWord, keyword_option, required_option, value_option, function_option, setter_option, no_option_word, option_word_by, option_word, setter_by, is_setter, no_slot_word}
-use Rattle.dy_syntax.specs.Forms.{AreNames, one_name, more_names, SlotOption, init_keyword, required_init_keyword, init_value, init_function, setter, IsOption, by_keyword, by_required_keyword, by_value, by_init_function, by_setter, AreOptions, no_option, option_and, SlotTree, IsSlot, a_slot, AreSlots, no_slot, slot_and, no_defaults, FormTree, expression_form, class_form, constant_form, variable_form, generic_form, method_form, function_form, domain_form, IsForm, by_expression, by_class, by_method, by_function, by_constant, by_variable, by_generic, by_domain}
-use Rattle.dy_syntax.specs.FormReading.{WordsFront, with_adjective, word_if, word_at, words_front, with_name, names_behind, names_in, symbol_of, symbol_in, setter_if, setter_in, keyword_of, required_of, value_of, function_of, option_by, option_at, option_items, slot_of, slot_variable, slot_if, slot_words, slot_front, slot_pieces, slot_items, slots_from, slots_pieces, slots_items, class_of, names_inside, class_with, class_headed, class_named, class_at, class_items, method_of_form, function_of_form, if_suits, ended_by, ended_definition, constant_of_form, variable_of_form, bound_with, bound_sides, bound_items_of, generic_of, generic_end, generic_results, generic_if, generic_listed, generic_headed, generic_named, generic_at, generic_items, domain_of, domain_end, domain_headed, domain_named, domain_at, domain_items, flat_by, flat_definition, FormFront, expression_front, group_front, flat_front, front_of_group, front_of_token, form_front, expression_of_form, form_by, form_of}
-use Rattle.dy_syntax.proofs.Lists.{reads, some_one, items_row, fragments_back}
-use Rattle.dy_syntax.proofs.Cuts.{Closed, cut_end, closed_on, Never, first_cut_on}
+use Rattle.dy_syntax.specs.Signatures.{ResultsFront, results_front, named_items, listed_items, named_of, method_of, method_items, named_with}
+use Rattle.dy_syntax.specs.Fragments.{items_in, items_of, expression_of, tree_inside}
+use Rattle.dy_syntax.specs.Definitions.{DefineWord, open_word, sealed_word, abstract_word, concrete_word, primary_word, free_word, inlining_word, class_definition, method_definition, function_definition, generic_definition, constant_definition, variable_definition, domain_definition, define_word_of, is_definition, is_definition_word, all_are, is_class_adjective, is_open, is_sealed, is_inlining, suit_class, suit_function, suit_method, suit_generic, SlotWord, constant_slot, allocation, slot_word_of, is_slot, is_slot_word, is_constant_slot, is_allocation, suit_slot, OptionWord, keyword_option, required_option, value_option, function_option, setter_option, no_option_word, option_word, setter_by, is_setter, no_slot_word}
+use Rattle.dy_syntax.specs.Forms.{AreNames, one_name, more_names, SlotOption, IsOption, by_keyword, by_required_keyword, by_value, by_init_function, by_setter, AreOptions, no_option, option_and, SlotTree, IsSlot, a_slot, AreSlots, no_slot, slot_and, no_defaults, FormTree, class_form, generic_form, domain_form, IsForm, by_expression, by_class, by_method, by_function, by_constant, by_variable, by_generic, by_domain}
+use Rattle.dy_syntax.specs.FormReading.{WordsFront, with_adjective, word_if, words_front, with_name, names_behind, names_in, symbol_in, setter_if, keyword_of, required_of, value_of, function_of, option_by, option_items, slot_of, slot_variable, slot_if, slot_words, slot_front, slot_pieces, slot_items, slots_from, slots_pieces, slots_items, class_of, class_with, class_headed, class_named, class_items, method_of_form, function_of_form, if_suits, ended_by, ended_definition, constant_of_form, variable_of_form, bound_with, bound_sides, bound_items_of, generic_results, generic_if, generic_listed, generic_headed, generic_named, generic_items, domain_of, domain_headed, domain_named, domain_items, flat_by, flat_definition, FormFront, expression_front, group_front, flat_front, front_of_group, front_of_token, form_front, expression_of_form, form_by, form_of}
+use Rattle.dy_syntax.proofs.Lists.{reads, items_row}
+use Rattle.dy_syntax.proofs.Cuts.{Closed, first_cut_on}
 use Rattle.dy_syntax.proofs.Rows.{items_append, joined_on, Behind, behind_nothing, behind_piece}
 use Rattle.dy_syntax.proofs.Inner.{inner_closed_by, inner_no_comma, semicolons, reads_inner}
-use Rattle.dy_syntax.proofs.TypeComplete.{Quiet, is_quiet, quiet_role, quiet_closed, variable_quiet, no_commas_in, comma_separates, front_of, variable_complete, type_complete, target_complete}
-use Rattle.dy_syntax.proofs.BodyComplete.{expression_read, comparison_is, equals_inner, no_equals_in, target_quiet, semicolon_separates}
+use Rattle.dy_syntax.proofs.TypeComplete.{is_quiet, quiet_role, quiet_closed, variable_quiet, no_commas_in, variable_complete, type_complete, target_complete}
+use Rattle.dy_syntax.proofs.BodyComplete.{expression_read, comparison_is, no_equals_in, target_quiet, semicolon_separates}
 use Rattle.dy_syntax.proofs.BlockComplete.{headed_read}
-use Rattle.dy_syntax.proofs.SignatureComplete.{InitialRead, results_complete, named_read}
+use Rattle.dy_syntax.proofs.SignatureComplete.{InitialRead, results_complete}
 use Rattle.dy_syntax.proofs.Complete.{complete}
 use Rattle.dy_syntax.proofs.Whole.{reads_all}
 

@@ -1,29 +1,29 @@
 -- What is read as a form is one.
-use Rattle.std.proofs.Common.{◌≡◌, Bool, true, false, List, [], ◌∷◌, ◌++◌, map, Option, Some, None, option_map, option_and_then, refl, sym, ap, subst, ◌∙◌, append_assoc}
+use Rattle.std.proofs.Common.{◌≡◌, Bool, true, false, List, [], ◌∷◌, ◌++◌, map, Option, Some, None, option_map, option_and_then, refl, sym, ap, subst, ◌∙◌}
 use Rattle.std.proofs.lemmas.List.{append-nil}
 use Rattle.dy_tree.specs.declared.token.Token.{Token}
 use Rattle.dy_tree.specs.Fragments.{SeenFragment, one, group, SeenFragments, row}
-use Rattle.dy_syntax.specs.Trees.{Tree, MaybeTree, Listed, parameters_of, body_of}
-use Rattle.dy_syntax.specs.Roles.{Role, named, symbol, comma, semicolon, defines, role_of, nothing, Bracket, round, statement, define_word, bracket_of}
-use Rattle.dy_syntax.specs.Types.{is_equals, TypeTree, some_types, IsType, VariableTree, IsVariable, TargetTree, IsTarget}
+use Rattle.dy_syntax.specs.Trees.{Tree, MaybeTree, Listed}
+use Rattle.dy_syntax.specs.Roles.{Role, named, symbol, defines, role_of, nothing, Bracket, statement, define_word, bracket_of}
+use Rattle.dy_syntax.specs.Types.{is_equals, TypeTree, VariableTree, IsVariable, TargetTree, IsTarget}
 use Rattle.dy_syntax.specs.Arguments.{is_comma, is_comma_fragment}
-use Rattle.dy_syntax.specs.Expressions.{Derives, expression, initial, signature}
-use Rattle.dy_syntax.specs.Cutting.{NamedFound, Item, Piece, Pieces, is_semicolon, cut, each_other, Sides, first_cut, fragments_in, Front, headed}
-use Rattle.dy_syntax.specs.TypeReading.{VariableFront, variable_front, target_items}
+use Rattle.dy_syntax.specs.Productions.{Derives, expression, initial}
+use Rattle.dy_syntax.specs.Cutting.{Item, Piece, Pieces, is_semicolon, cut, each_other, first_cut, fragments_in, headed}
+use Rattle.dy_syntax.specs.TypeReading.{variable_front, target_items}
 use Rattle.dy_syntax.specs.Reading.{expression_items}
 use Rattle.dy_syntax.specs.Bodies.{is_equals_at}
 use Rattle.dy_syntax.specs.Signatures.{ResultsFront, results_front, initial_items, named_items}
 use Rattle.dy_syntax.specs.Fragments.{items_in, items_of, expression_of}
 use Rattle.dy_syntax.specs.Definitions.{DefineWord, sealed_word, class_definition, method_definition, function_definition, generic_definition, constant_definition, variable_definition, domain_definition, define_word_of, is_definition_word, is_sealed, suit_class, suit_function, suit_method, suit_generic, suit_domain, suit_binding, suit_slot, is_slot_word, OptionWord, keyword_option, required_option, value_option, function_option, setter_option, option_word, is_setter}
-use Rattle.dy_syntax.specs.Forms.{AreNames, one_name, more_names, SlotOption, IsOption, by_keyword, by_required_keyword, by_value, by_init_function, by_setter, AreOptions, no_option, option_and, SlotTree, IsSlot, a_slot, AreSlots, no_slot, slot_and, no_defaults, FormTree, constant_form, variable_form, IsForm, by_expression, by_class, by_method, by_function, by_constant, by_variable, by_generic, by_domain}
-use Rattle.dy_syntax.specs.FormReading.{WordsFront, with_adjective, word_if, word_at, words_front, with_name, names_behind, names_in, symbol_of, symbol_in, setter_if, setter_in, keyword_of, required_of, value_of, function_of, option_by, option_at, option_items, slot_of, slot_variable, slot_if, slot_words, slot_front, slot_pieces, slot_items, slots_from, slots_items, class_of, names_inside, class_with, class_headed, class_named, class_at, class_items, method_of_form, function_of_form, if_suits, ended_by, ended_definition, constant_of_form, variable_of_form, bound_with, bound_sides, bound_items_of, generic_of, generic_end, generic_results, generic_if, generic_listed, generic_headed, generic_named, generic_at, generic_items, domain_of, domain_end, domain_headed, domain_named, domain_at, domain_items, flat_by, flat_definition, FormFront, expression_front, group_front, flat_front, front_of_group, front_of_token, form_front, expression_of_form, form_by, form_of}
+use Rattle.dy_syntax.specs.Forms.{AreNames, one_name, more_names, SlotOption, IsOption, by_keyword, by_required_keyword, by_value, by_init_function, by_setter, AreOptions, no_option, option_and, SlotTree, IsSlot, a_slot, AreSlots, no_slot, slot_and, no_defaults, FormTree, IsForm, by_expression, by_class, by_method, by_function, by_constant, by_variable, by_generic, by_domain}
+use Rattle.dy_syntax.specs.FormReading.{WordsFront, word_if, word_at, words_front, with_name, names_behind, names_in, symbol_of, symbol_in, setter_if, setter_in, keyword_of, required_of, value_of, function_of, option_by, option_at, option_items, slot_of, slot_variable, slot_if, slot_words, slot_front, slot_items, slots_from, slots_items, class_of, names_inside, class_with, class_headed, class_named, class_at, class_items, method_of_form, function_of_form, if_suits, ended_by, ended_definition, constant_of_form, variable_of_form, bound_with, bound_sides, bound_items_of, generic_of, generic_end, generic_results, generic_if, generic_listed, generic_headed, generic_named, generic_at, generic_items, domain_of, domain_end, domain_headed, domain_named, domain_at, domain_items, flat_by, flat_definition, front_of_group, front_of_token, expression_of_form, form_by, form_of}
 use Rattle.dy_syntax.proofs.Lists.{some_one, map_some, then_some, fragments_row, fragments_back}
-use Rattle.dy_syntax.proofs.Sound.{NamedIs, ItemsSound, expression_sound}
-use Rattle.dy_syntax.proofs.Cuts.{with_both, behind_in, Separates, cut_sound, AreSides, first_cut_sound}
-use Rattle.dy_syntax.proofs.TypeSound.{comma_is, comma_token, VariableIs, variable_front_sound, target_sound}
+use Rattle.dy_syntax.proofs.Sound.{ItemsSound, expression_sound}
+use Rattle.dy_syntax.proofs.Cuts.{with_both, behind_in, Separates, cut_sound, first_cut_sound}
+use Rattle.dy_syntax.proofs.TypeSound.{comma_is, variable_front_sound, target_sound}
 use Rattle.dy_syntax.proofs.BodySound.{semicolon_token, equals_token}
-use Rattle.dy_syntax.proofs.HeadSound.{HasBrackets, headed_sound}
-use Rattle.dy_syntax.proofs.SignatureSound.{ResultsAre, results_front_sound, initial_sound, named_sound}
+use Rattle.dy_syntax.proofs.HeadSound.{headed_sound}
+use Rattle.dy_syntax.proofs.SignatureSound.{results_front_sound, initial_sound, named_sound}
 use Rattle.dy_syntax.proofs.FragmentsSound.{items_sound, inner_sound}
 
 abbrev Fragments : Type 0

@@ -1,13 +1,13 @@
 -- What a form is written as stands for it.
-use Rattle.std.proofs.Common.{◌≡◌, true, List, [], ◌∷◌, ◌++◌, map, codes, refl, sym, ap, subst, ◌∙◌}
+use Rattle.std.proofs.Common.{◌≡◌, List, [], ◌∷◌, ◌++◌, map, codes, refl, sym, subst}
 use Rattle.dy_tree.specs.declared.token.TokenKind.TheVariants as kinds
 use Rattle.dy_tree.specs.declared.token.Token.{Token}
 use Rattle.dy_tree.specs.Fragments.{SeenFragment, one, row, pack}
 use Rattle.dy_syntax.specs.Trees.{Tree, body_of, parameters_of}
 use Rattle.dy_syntax.specs.Roles.{nothing, begun_by, define_word, role_of, named}
-use Rattle.dy_syntax.specs.Types.{TypeTree, some_types, IsType, types_of}
-use Rattle.dy_syntax.specs.Expressions.{Derives, expression, initial, brackets, signature}
-use Rattle.dy_syntax.specs.Marks.{made, mark, in_round, word_mark, comma_mark, semicolon_mark}
+use Rattle.dy_syntax.specs.Types.{some_types, IsType, types_of}
+use Rattle.dy_syntax.specs.Productions.{Derives, expression, initial, brackets, signature}
+use Rattle.dy_syntax.specs.Marks.{made, mark, in_round, word_mark, semicolon_mark}
 use Rattle.dy_syntax.specs.TypeWriting.{written_variable, written_target, written_types, written_results}
 use Rattle.dy_syntax.specs.Writing.{written, written_initial, written_body, written_signature}
 use Rattle.dy_syntax.specs.Forms.{AreNames, one_name, more_names, SlotOption, IsOption, by_keyword, by_required_keyword, by_value, by_init_function, by_setter, AreOptions, no_option, option_and, SlotTree, IsSlot, a_slot, AreSlots, no_slot, slot_and, FormTree, IsForm, by_expression, by_class, by_method, by_function, by_constant, by_variable, by_generic, by_domain}

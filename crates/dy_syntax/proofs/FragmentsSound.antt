@@ -1,20 +1,19 @@
 -- What is read of fragments is derived.
-use Rattle.std.proofs.Common.{◌≡◌, List, [], ◌∷◌, ◌++◌, Option, Some, None, option_map, refl, sym, ap, subst, ◌∙◌}
+use Rattle.std.proofs.Common.{◌≡◌, List, [], ◌∷◌, Option, Some, None, option_map, refl, subst}
 use Rattle.dy_tree.specs.declared.token.Token.{Token}
 use Rattle.dy_tree.specs.Fragments.{SeenFragment, one, group, SeenFragments, no_fragment, fragment_and, row}
 use Rattle.dy_syntax.specs.ConstantTrees.{Constant}
-use Rattle.dy_syntax.specs.Trees.{Tree, Argument}
-use Rattle.dy_syntax.specs.Roles.{Splitting, nothing, Bracket, round, square, hidden, sharp_round, sharp_square, statement, special, bracket_of, tests, steps}
+use Rattle.dy_syntax.specs.Trees.{Tree}
+use Rattle.dy_syntax.specs.Roles.{nothing, Bracket, round, square, hidden, sharp_round, sharp_square, statement, special, bracket_of, tests, steps}
 use Rattle.dy_syntax.specs.ConstantReading.{Inside, list_in, vector_in}
-use Rattle.dy_syntax.specs.Expressions.{leaf, expression, arguments, Derives, list_leaf, vector_leaf, head, Catches, for_head, brackets, signature}
+use Rattle.dy_syntax.specs.Productions.{expression, Derives, list_leaf, vector_leaf, head, Catches, for_head, brackets, signature}
 use Rattle.dy_syntax.specs.Cutting.{Item, fragments_in}
 use Rattle.dy_syntax.specs.Reading.{expression_items, passed_items}
 use Rattle.dy_syntax.specs.Types.{some_types, IsType, Bind, Give}
-use Rattle.dy_syntax.specs.TypeReading.{types_items, limits_items, bind_items}
 use Rattle.dy_syntax.specs.StatementReading.{statement_items}
 use Rattle.dy_syntax.specs.Fragments.{list_tree, vector_tree, tree_inside, found_of, item_of, items_in, items_of}
 use Rattle.dy_syntax.proofs.ConstantSound.{list_sound, vector_sound}
-use Rattle.dy_syntax.proofs.Lists.{fragments_row, fragments_back}
+use Rattle.dy_syntax.proofs.Lists.{fragments_row}
 use Rattle.dy_syntax.proofs.Sound.{Holds, HoldsIf, InnerArguments, LimitsAre, InsideSound, ItemSound, ItemsSound, token_sound, group_sound, expression_sound, passed_sound, NamedIs}
 use Rattle.dy_syntax.proofs.TypeSound.{types_sound, limits_sound, bind_sound}
 use Rattle.dy_syntax.proofs.ChoiceSound.{head_sound}

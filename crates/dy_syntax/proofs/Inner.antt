@@ -1,7 +1,6 @@
 -- What stands in an expression, and no separator does.
-use Rattle.std.proofs.Common.{◌≡◌, Bool, true, false, not, ◌&&◌, List, [], ◌∷◌, ◌++◌, Option, Some, None, option_and_then, refl, sym, ap, subst, ◌∙◌}
+use Rattle.std.proofs.Common.{◌≡◌, Bool, true, false, not, ◌&&◌, List, [], ◌∷◌, Option, Some, None, option_and_then, refl, sym, subst}
 use Rattle.dy_tree.specs.declared.token.Token.{Token}
-use Rattle.dy_tree.specs.declared.types.LiteralForm.TheVariants as literals
 use Rattle.dy_tree.specs.Fragments.{SeenFragment, one, group}
 use Rattle.dy_syntax.specs.Trees.{Tree, literal}
 use Rattle.dy_syntax.specs.Roles.{Role, integer, character, string, boolean, symbol, named, operator, minus, tilde, assigns, dot, comma, semicolon, arrow, colons, lets, locals, role_of, Splitting, nothing, branches, endings, last_part, steps, tests, no_splitter, splits_as, splits, positive, remains}

@@ -30,6 +30,8 @@ pub mod Whole
 pub mod FormComplete
 pub mod FormWritten
 pub mod WholeForms
+pub mod Parsing
 pub mod Examples
+pub mod StatementExamples
 pub mod ConstantSound
 pub mod ConstantComplete

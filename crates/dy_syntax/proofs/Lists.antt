@@ -1,5 +1,5 @@
 -- Fragments as a list and inside of a group, with what was read of them, and the reader over parts of them.
-use Rattle.std.proofs.Common.{◌≡◌, List, [], ◌∷◌, ◌++◌, Option, Some, None, map, option_map, option_and_then, refl, sym, ap}
+use Rattle.std.proofs.Common.{◌≡◌, List, [], ◌∷◌, ◌++◌, Option, Some, None, option_map, option_and_then, refl, sym, ap}
 use Rattle.dy_tree.specs.Fragments.{SeenFragment, SeenFragments, no_fragment, fragment_and, row, pack}
 use Rattle.dy_syntax.specs.Roles.{Splitting}
 use Rattle.dy_syntax.specs.Cutting.{Item, fragments_in}

@@ -4,25 +4,23 @@ use Rattle.std.proofs.lemmas.List.{append-nil}
 use Rattle.std.specs.List.{list_any}
 use Rattle.dy_tree.specs.declared.token.Token.{Token}
 use Rattle.dy_tree.specs.Fragments.{SeenFragment, one, group, SeenFragments, row}
-use Rattle.dy_syntax.specs.Operators.{comparison}
 use Rattle.dy_syntax.specs.Types.{VariableTree, IsVariable, untyped, typed, is_equals, is_splitting, binds_plainly, begins_round}
 use Rattle.dy_syntax.specs.Trees.{Tree, for_tree, ItemTree, body_of, Otherwise, no_otherwise, otherwise, ForClause, then_clause, in_clause, from_clause, for_clauses_of, MaybeLimit, no_limit, a_limit, MaybeTree, no_tree, some_tree, StopTree, stop_of}
-use Rattle.dy_syntax.specs.Roles.{Role, operator, named, symbol, comma, role_of, Splitting, steps, last_part, Splitter, then_word, from_word, to_word, above_word, below_word, by_word, finally_word, in_word, no_splitter, splitter_by, splitter_of, splits_as, splits, for_word, round, bracket_of, is_same}
-use Rattle.dy_syntax.specs.Arguments.{is_comma, is_comma_fragment}
-use Rattle.dy_syntax.specs.Expressions.{is_symbol_role, is_stop_word, is_limit_word}
-use Rattle.dy_syntax.specs.Cutting.{Ending, Item, Piece, Pieces, is_let_role, is_let, is_splitter, cut, ending, fragments_in, Front, headed, word_of}
+use Rattle.dy_syntax.specs.Roles.{Role, named, symbol, comma, role_of, Splitting, steps, last_part, Splitter, then_word, from_word, to_word, above_word, below_word, by_word, finally_word, in_word, no_splitter, splitter_of, splits_as, splits, for_word, round, bracket_of, is_same}
+use Rattle.dy_syntax.specs.Arguments.{is_comma_fragment}
+use Rattle.dy_syntax.specs.Productions.{is_symbol_role, is_stop_word, is_limit_word}
+use Rattle.dy_syntax.specs.Cutting.{Ending, Item, Piece, Pieces, is_let, is_splitter, cut, ending, fragments_in, Front, word_of}
 use Rattle.dy_syntax.specs.TypeReading.{VariableFront, is_colons, variable_front}
 use Rattle.dy_syntax.specs.Reading.{State, whole, wants, tree_of, expression_items}
-use Rattle.dy_syntax.specs.Bodies.{is_equals_at, body_items}
-use Rattle.dy_syntax.specs.Loops.{is_in_word, is_in, Range, range_of, step_of, step_at, step_in, with_limit, limit_with, limit_token, range_if, range_in, from_of, from_with, from_at, from_in, then_of, then_with, then_at, then_in, in_of, in_in, equals_if, in_if, clause_behind, clause_with, clause_if, clause_pieces, clause_items, is_stop_at, is_stop, stop_with, stop_token, stop_items, for_items, finally_of, finally_at, finally_in, for_of, for_body, for_pieces, for_statement}
+use Rattle.dy_syntax.specs.Loops.{is_in_word, is_in, Range, range_of, step_of, step_at, step_in, with_limit, limit_with, limit_token, range_if, range_in, from_of, from_with, from_at, then_of, then_with, then_at, in_of, equals_if, in_if, clause_behind, clause_with, clause_if, clause_pieces, clause_items, is_stop_at, is_stop, stop_with, stop_items, for_items, finally_of, finally_at, finally_in, for_of, for_body, for_pieces, for_statement}
 use Rattle.dy_syntax.specs.StatementReading.{statement_items}
 use Rattle.dy_syntax.specs.Fragments.{item_of, items_of, items_in}
 use Rattle.dy_syntax.proofs.Lists.{some_one, reads, items_row, fragments_back}
-use Rattle.dy_syntax.proofs.Cuts.{Closed, ended, joined, cut_end}
-use Rattle.dy_syntax.proofs.Rows.{items_append, joined_on, ending_only, ending_last, ending_more, Behind, behind_nothing, behind_piece, behind_last}
-use Rattle.dy_syntax.proofs.Inner.{Inner, is_inner, Separating, splitters, splits_no_splitter, reads_inner, inner_closed, inner_closed_by, inner_no_comma}
-use Rattle.dy_syntax.proofs.TypeComplete.{Quiet, variable_quiet, no_commas_in, comma_separates, begins_colons, front_of, variable_complete}
-use Rattle.dy_syntax.proofs.BodyComplete.{Nonempty, nonempty_on, expression_read, read_some, bound_closed, equals_inner, BodyRead, comparison_is}
+use Rattle.dy_syntax.proofs.Cuts.{Closed, cut_end}
+use Rattle.dy_syntax.proofs.Rows.{items_append, ending_only, ending_last, ending_more, Behind, behind_nothing, behind_piece, behind_last}
+use Rattle.dy_syntax.proofs.Inner.{Inner, is_inner, Separating, splitters, reads_inner, inner_closed, inner_closed_by, inner_no_comma}
+use Rattle.dy_syntax.proofs.TypeComplete.{variable_quiet, no_commas_in, comma_separates, begins_colons, variable_complete}
+use Rattle.dy_syntax.proofs.BodyComplete.{Nonempty, nonempty_on, expression_read, bound_closed, equals_inner, BodyRead, comparison_is}
 use Rattle.dy_syntax.proofs.BlockComplete.{headed_read}
 
 abbrev Fragments : Type 0

@@ -1,25 +1,25 @@
 -- What is read as a `for` is derived.
-use Rattle.std.proofs.Common.{◌≡◌, Bool, true, false, not, ◌&&◌, ◌||◌, List, [], ◌∷◌, ◌++◌, Option, Some, None, option_map, option_and_then, refl, sym, ap, subst, ◌∙◌, append_assoc}
+use Rattle.std.proofs.Common.{◌≡◌, Bool, true, false, not, ◌||◌, List, [], ◌∷◌, ◌++◌, Option, Some, option_and_then, refl, sym, ap, subst, ◌∙◌}
 use Rattle.std.proofs.lemmas.List.{append-nil}
 use Rattle.std.specs.List.{list_any}
 use Rattle.dy_tree.specs.declared.token.Token.{Token}
 use Rattle.dy_tree.specs.Fragments.{SeenFragment, one, group, SeenFragments, row}
 use Rattle.dy_syntax.specs.Types.{VariableTree, IsVariable, is_equals, is_splitting, binds_plainly}
-use Rattle.dy_syntax.specs.Trees.{Tree, ItemTree, body_of, Otherwise, no_otherwise, otherwise, ForClause, then_clause, in_clause, from_clause, MaybeLimit, no_limit, a_limit, MaybeTree, no_tree, some_tree, StopTree}
-use Rattle.dy_syntax.specs.Roles.{comma, role_of, Splitting, steps, last_part, Splitter, then_word, from_word, to_word, above_word, below_word, by_word, finally_word, in_word, no_splitter, splitter_of, for_word, Bracket, round, statement, bracket_of}
+use Rattle.dy_syntax.specs.Trees.{Tree, ItemTree, Otherwise, ForClause, MaybeLimit, no_limit, StopTree}
+use Rattle.dy_syntax.specs.Roles.{role_of, Splitting, steps, last_part, Splitter, then_word, from_word, by_word, finally_word, in_word, splitter_of, for_word, statement, bracket_of}
 use Rattle.dy_syntax.specs.Arguments.{is_comma_fragment}
-use Rattle.dy_syntax.specs.Expressions.{is_stop_word, is_limit_word, leaf, expression, a_body, for_clause, range, for_clauses, for_head, ending_part, Derives, for_leaf, by_then, by_in, by_from, no_range, step_range, limit_range, last_clause, only_stop, more_clauses, empty_head, some_clauses, no_finally, by_finally}
-use Rattle.dy_syntax.specs.Cutting.{Ending, Item, Piece, Pieces, is_splitter, cut, fragments_in, Front, headed, word_of}
-use Rattle.dy_syntax.specs.TypeReading.{VariableFront, variable_front}
+use Rattle.dy_syntax.specs.Productions.{is_stop_word, is_limit_word, leaf, expression, a_body, for_clause, range, for_clauses, for_head, ending_part, Derives, for_leaf, by_then, by_in, by_from, no_range, step_range, limit_range, last_clause, only_stop, more_clauses, empty_head, some_clauses, no_finally, by_finally}
+use Rattle.dy_syntax.specs.Cutting.{Ending, Item, Piece, Pieces, is_splitter, cut, fragments_in, headed, word_of}
+use Rattle.dy_syntax.specs.TypeReading.{variable_front}
 use Rattle.dy_syntax.specs.Reading.{expression_items}
 use Rattle.dy_syntax.specs.Bodies.{is_equals_at, body_items}
-use Rattle.dy_syntax.specs.Loops.{is_in_word, is_in, Range, range_of, step_of, step_at, step_in, with_limit, limit_with, limit_token, range_if, range_in, from_of, from_with, from_at, from_in, then_of, then_with, then_at, then_in, in_of, in_in, equals_if, in_if, clause_behind, clause_with, clause_if, clause_pieces, clause_items, is_stop_at, is_stop, stop_with, stop_token, stop_items, for_items, finally_of, finally_at, finally_in, for_of, for_body, for_pieces, for_statement}
+use Rattle.dy_syntax.specs.Loops.{is_in_word, is_in, Range, step_of, step_at, step_in, with_limit, limit_with, limit_token, range_if, range_in, from_of, from_with, from_at, from_in, then_of, then_with, then_at, then_in, in_of, in_in, equals_if, in_if, clause_behind, clause_with, clause_if, clause_items, is_stop_at, is_stop, stop_with, stop_token, stop_items, for_items, finally_of, finally_at, finally_in, for_of, for_body, for_pieces, for_statement}
 use Rattle.dy_syntax.proofs.Lists.{some_one, map_some, then_some}
 use Rattle.dy_syntax.proofs.Sound.{ItemsSound, expression_sound}
-use Rattle.dy_syntax.proofs.Cuts.{behind_in, pieces_in, Separates, cut_sound, EndRow, end_row_sound}
-use Rattle.dy_syntax.proofs.TypeSound.{comma_is, VariableIs, variable_front_sound}
+use Rattle.dy_syntax.proofs.Cuts.{behind_in, Separates, cut_sound, EndRow, end_row_sound}
+use Rattle.dy_syntax.proofs.TypeSound.{comma_is, variable_front_sound}
 use Rattle.dy_syntax.proofs.BodySound.{body_sound, equals_token}
-use Rattle.dy_syntax.proofs.HeadSound.{HasBrackets, headed_sound, word_token}
+use Rattle.dy_syntax.proofs.HeadSound.{headed_sound, word_token}
 
 abbrev Fragments : Type 0
 Fragments = List SeenFragment

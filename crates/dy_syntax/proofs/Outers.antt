@@ -5,7 +5,7 @@ use Rattle.dy_tree.specs.Fragments.{SeenFragment}
 use Rattle.dy_syntax.specs.Operators.{below}
 use Rattle.dy_syntax.specs.Trees.{Tree, operation, unary}
 use Rattle.dy_syntax.specs.Roles.{minus, role_of}
-use Rattle.dy_syntax.specs.Expressions.{is_integer}
+use Rattle.dy_syntax.specs.Productions.{is_integer}
 use Rattle.dy_syntax.specs.Reading.{Outer, whole, operated, under, assigned, reduced, finished, finished_part}
 
 abbrev Fragments : Type 0

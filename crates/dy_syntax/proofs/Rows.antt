@@ -1,8 +1,8 @@
 -- What is derived as parts with separators between them is read.
-use Rattle.std.proofs.Common.{◌≡◌, Bool, true, false, List, [], ◌∷◌, ◌++◌, Option, Some, None, refl, sym, ap, subst, ◌∙◌}
+use Rattle.std.proofs.Common.{◌≡◌, Bool, true, false, List, [], ◌∷◌, ◌++◌, Option, Some, ap, subst, ◌∙◌}
 use Rattle.std.proofs.lemmas.List.{append-nil, map-append}
 use Rattle.dy_tree.specs.Fragments.{SeenFragment}
-use Rattle.dy_syntax.specs.Cutting.{Ending, Item, Piece, Pieces, cut, with_others, each, only_part, only_last, with_part, ending_at, ending}
+use Rattle.dy_syntax.specs.Cutting.{Item, Piece, cut, with_others, each, only_part, only_last, with_part, ending_at, ending}
 use Rattle.dy_syntax.specs.Fragments.{item_of, items_of}
 use Rattle.dy_syntax.proofs.Cuts.{Closed, joined, cut_end, cut_on}
 

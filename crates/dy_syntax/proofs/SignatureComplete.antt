@@ -1,30 +1,28 @@
 -- What is derived as parameters, results and a body is read.
-use Rattle.std.proofs.Common.{◌≡◌, ℕ, Bool, true, false, cond, not, ◌&&◌, List, [], ◌∷◌, ◌++◌, codes, Option, Some, None, option_map, option_and_then, refl, sym, ap, subst, ◌∙◌, append_assoc}
-use Rattle.std.proofs.lemmas.List.{append-nil}
+use Rattle.std.proofs.Common.{◌≡◌, Bool, true, false, cond, not, List, [], ◌∷◌, ◌++◌, codes, Option, Some, None, option_map, option_and_then, refl, sym, ap, subst, ◌∙◌}
 use Rattle.dy_tree.specs.declared.token.TokenKind.{TokenKind}
 use Rattle.dy_tree.specs.declared.token.TokenKind.TheVariants as kinds
 use Rattle.dy_tree.specs.declared.token.Token.{Token}
 use Rattle.dy_tree.specs.declared.types.LiteralForm.{LiteralForm}
 use Rattle.dy_tree.specs.Fragments.{SeenFragment, one, group, SeenFragments, no_fragment, fragment_and, row}
-use Rattle.dy_syntax.specs.Operators.{comparison}
 use Rattle.dy_syntax.specs.Constants.{token_literal, one_token, negative_integer}
-use Rattle.dy_syntax.specs.Types.{is_comparison, is_equals, is_identity, is_mark, Single, IsSingle, of_literal, of_empty_list, of_name, VariableTree, IsVariable, untyped, typed, RequiredTree, required_variable, required_single, IsRequired, any_value, one_value, ResultTree, several_results, one_result, Give, last_given, rest_given, more_given, AreResults, by_result, by_no_results, by_results, is_arrow_role, begins_with, apart, ResultsPart, no_results, some_results, EndPart, no_end, an_end, PartWord, part_word_by, part_word_text, part_word, next_word, rest_word, key_word, all_keys_word, no_part_word, begins_round}
-use Rattle.dy_syntax.specs.Trees.{Tree, MaybeTree, no_tree, some_tree, Key, a_key, KeysTree, Listed, ItemTree, method_tree, parameters_of, body_of}
-use Rattle.dy_syntax.specs.Roles.{Role, integer, character, string, boolean, symbol, operator, named, minus, comma, semicolon, arrow, colons, other, role_by, role_of, nothing, Bracket, round, bracket_of, is_same, is_among, method_word}
+use Rattle.dy_syntax.specs.Types.{is_equals, is_identity, Single, IsSingle, of_literal, of_empty_list, of_name, VariableTree, IsVariable, untyped, typed, RequiredTree, required_variable, required_single, IsRequired, any_value, one_value, ResultTree, one_result, Give, last_given, rest_given, more_given, AreResults, by_result, by_no_results, by_results, is_arrow_role, begins_with, apart, ResultsPart, no_results, some_results, EndPart, no_end, an_end, PartWord, part_word_by, part_word, next_word, rest_word, key_word, all_keys_word, no_part_word, begins_round}
+use Rattle.dy_syntax.specs.Trees.{Tree, MaybeTree, no_tree, some_tree, Key, a_key, KeysTree, Listed, ItemTree}
+use Rattle.dy_syntax.specs.Roles.{Role, integer, character, string, boolean, symbol, named, comma, semicolon, arrow, colons, other, role_by, role_of, nothing, Bracket, round, bracket_of, is_same, is_among}
 use Rattle.dy_syntax.specs.Arguments.{is_comma, is_comma_fragment}
-use Rattle.dy_syntax.specs.Expressions.{list_of, keys_found}
-use Rattle.dy_syntax.specs.Cutting.{MethodFound, NamedFound, Ending, Found, Item, Piece, Pieces, is_semicolon, is_arrow, is_let_role, is_let, cut, ending, fragments_in, Front, headed}
-use Rattle.dy_syntax.specs.TypeReading.{single_in, VariableFront, is_colons, variable_front, variable_items, marked, is_marked, name_items}
-use Rattle.dy_syntax.specs.Reading.{State, whole, wants, tree_of, expression_items}
-use Rattle.dy_syntax.specs.Bodies.{is_equals_at, body_items}
-use Rattle.dy_syntax.specs.Signatures.{rest_variable, give_items, several_given, ResultsFront, results_in_front, given_in, variable_result, results_at, results_behind, results_if, results_front, is_identity_at, single_named, single_at, required_if, required_items, initial_of, initial_if, initial_items, key_of, key_with, key_from, key_token, key_at, key_items, keys_of_found, with_key, is_all_word, is_all_keys, keys_end, keys_in, has_keys, bare_of, keys_from, listed_keys, with_next, next_before, with_rest, rest_before, required_before, part_kind, no_list, after_next, after_rest, after_required, part_with, part_at, listed_behind, listed_pieces, listed_items, after_end, without_front, method_of, method_with, method_listed, method_front, method_items, named_of, named_with, named_at, named_items}
+use Rattle.dy_syntax.specs.Productions.{list_of, keys_found}
+use Rattle.dy_syntax.specs.Cutting.{MethodFound, Ending, Found, Item, Piece, Pieces, is_semicolon, is_arrow, is_let_role, is_let, cut, fragments_in, Front}
+use Rattle.dy_syntax.specs.TypeReading.{single_in, VariableFront, is_colons, variable_front, variable_items, marked}
+use Rattle.dy_syntax.specs.Reading.{State, whole, wants, tree_of}
+use Rattle.dy_syntax.specs.Bodies.{body_items}
+use Rattle.dy_syntax.specs.Signatures.{rest_variable, give_items, several_given, ResultsFront, results_in_front, given_in, variable_result, results_behind, results_if, results_front, is_identity_at, single_named, required_if, required_items, initial_of, initial_if, initial_items, key_of, key_with, key_from, key_token, key_items, keys_of_found, with_key, is_all_word, is_all_keys, keys_end, keys_in, bare_of, keys_from, listed_keys, part_kind, no_list, after_next, after_rest, after_required, part_with, part_at, listed_behind, listed_pieces, listed_items, after_end, without_front, method_of, method_with, method_listed, method_front, method_items, named_of, named_with, named_items}
 use Rattle.dy_syntax.specs.Fragments.{item_of, items_of, items_in, found_in}
 use Rattle.dy_syntax.proofs.Lists.{reads, items_row, fragments_back}
-use Rattle.dy_syntax.proofs.Cuts.{Closed, ended, joined, cut_end}
+use Rattle.dy_syntax.proofs.Cuts.{Closed, cut_end}
 use Rattle.dy_syntax.proofs.Rows.{items_append, joined_on, ending_only, ending_last, ending_more, Behind, behind_nothing, behind_piece, behind_last}
-use Rattle.dy_syntax.proofs.Inner.{Inner, reads_inner, inner_closed_by, inner_no_comma}
+use Rattle.dy_syntax.proofs.Inner.{reads_inner, inner_closed_by, inner_no_comma}
 use Rattle.dy_syntax.proofs.TypeComplete.{variable_quiet, no_commas_in, comma_separates, begins_colons, front_of, variable_complete, variable_apart_reads, variable_unmarked, whole_variable_reads, mark_closed, name_closed, name_reads, single_complete}
-use Rattle.dy_syntax.proofs.BodyComplete.{Nonempty, nonempty_on, expression_read, comparison_is, equals_inner, BodyRead}
+use Rattle.dy_syntax.proofs.BodyComplete.{Nonempty, nonempty_on, expression_read, comparison_is, BodyRead}
 use Rattle.dy_syntax.proofs.BlockComplete.{headed_read}
 
 abbrev Fragments : Type 0

@@ -1,24 +1,24 @@
 -- What is read as parameters, results and a body is derived.
-use Rattle.std.proofs.Common.{◌≡◌, ℕ, Bool, true, false, not, ◌&&◌, List, [], ◌∷◌, ◌++◌, codes, Option, Some, None, option_map, option_and_then, refl, sym, ap, subst, ◌∙◌, append_assoc}
+use Rattle.std.proofs.Common.{◌≡◌, ℕ, Bool, true, false, not, List, [], ◌∷◌, ◌++◌, codes, Option, Some, None, option_map, option_and_then, refl, sym, ap, subst, ◌∙◌}
 use Rattle.std.proofs.lemmas.List.{append-nil}
 use Rattle.dy_tree.specs.declared.token.Token.{Token}
 use Rattle.dy_tree.specs.Fragments.{SeenFragment, one, group, SeenFragments, no_fragment, fragment_and, row}
-use Rattle.dy_syntax.specs.Types.{is_comparison, is_equals, is_identity, is_mark, Single, IsSingle, VariableTree, IsVariable, RequiredTree, required_variable, required_single, IsRequired, any_value, one_value, ResultTree, several_results, one_result, Give, last_given, rest_given, more_given, AreResults, by_result, by_no_results, by_results, is_arrow_role, begins_with, apart, ResultsPart, no_results, some_results, EndPart, no_end, an_end, PartWord, part_word, next_word, rest_word, key_word, all_keys_word, no_part_word}
-use Rattle.dy_syntax.specs.Trees.{Tree, MaybeTree, no_tree, some_tree, Key, a_key, KeysTree, Listed, ItemTree}
-use Rattle.dy_syntax.specs.Roles.{Role, named, symbol, comma, semicolon, arrow, role_of, nothing, Bracket, round, bracket_of}
+use Rattle.dy_syntax.specs.Types.{is_equals, is_identity, is_mark, Single, IsSingle, VariableTree, IsVariable, RequiredTree, required_variable, required_single, IsRequired, any_value, one_value, ResultTree, several_results, one_result, Give, last_given, rest_given, more_given, AreResults, by_result, by_no_results, by_results, is_arrow_role, begins_with, apart, ResultsPart, no_results, some_results, EndPart, no_end, an_end, PartWord, part_word, next_word, rest_word, key_word, all_keys_word}
+use Rattle.dy_syntax.specs.Trees.{Tree, MaybeTree, Key, KeysTree, Listed, ItemTree}
+use Rattle.dy_syntax.specs.Roles.{Role, named, symbol, arrow, role_of, nothing, Bracket, round, bracket_of}
 use Rattle.dy_syntax.specs.Arguments.{is_comma_fragment}
-use Rattle.dy_syntax.specs.Expressions.{list_of, keys_found, expression, a_body, initial, key, more_keys, listed, brackets, signature, Derives, no_initial, by_initial, plain_key, named_key, no_more_keys, all_keys, key_and_more, last_required, more_required, last_next, more_next, last_rest, more_rest, bare_keys, first_key, empty_brackets, some_listed, by_signature}
-use Rattle.dy_syntax.specs.Cutting.{MethodFound, NamedFound, Ending, Found, Item, Piece, Pieces, is_semicolon, is_arrow, cut, ending, fragments_in, Front, headed}
-use Rattle.dy_syntax.specs.TypeReading.{single_in, VariableFront, variable_front, variable_items, marked, is_marked, name_items}
+use Rattle.dy_syntax.specs.Productions.{list_of, expression, a_body, initial, key, more_keys, listed, brackets, signature, Derives, no_initial, by_initial, plain_key, named_key, no_more_keys, all_keys, key_and_more, last_required, more_required, last_next, more_next, last_rest, more_rest, bare_keys, first_key, empty_brackets, some_listed, by_signature}
+use Rattle.dy_syntax.specs.Cutting.{MethodFound, NamedFound, Ending, Item, Piece, Pieces, is_semicolon, is_arrow, cut, fragments_in, headed}
+use Rattle.dy_syntax.specs.TypeReading.{single_in, variable_front, variable_items, marked, is_marked, name_items}
 use Rattle.dy_syntax.specs.Reading.{expression_items}
 use Rattle.dy_syntax.specs.Bodies.{is_equals_at, body_items}
-use Rattle.dy_syntax.specs.Signatures.{rest_variable, give_items, several_given, ResultsFront, results_in_front, given_in, variable_result, results_at, results_behind, results_if, results_front, is_identity_at, single_named, single_at, required_if, required_items, initial_of, initial_if, initial_items, key_of, key_with, key_from, key_token, key_at, key_items, keys_of_found, with_key, is_all_keys, keys_end, keys_in, has_keys, bare_of, keys_from, listed_keys, with_next, next_before, with_rest, rest_before, required_before, is_all_word, part_kind, no_list, after_next, after_rest, after_required, part_with, part_at, listed_behind, listed_pieces, listed_items, after_end, without_front, method_of, method_with, method_listed, method_front, method_items, named_of, named_with, named_at, named_items}
+use Rattle.dy_syntax.specs.Signatures.{rest_variable, give_items, several_given, ResultsFront, results_in_front, given_in, variable_result, results_at, results_behind, results_if, results_front, is_identity_at, single_named, single_at, required_if, required_items, initial_of, initial_if, initial_items, key_of, key_with, key_from, key_token, key_at, key_items, keys_of_found, with_key, is_all_keys, keys_end, keys_in, has_keys, bare_of, keys_from, listed_keys, with_next, next_before, with_rest, rest_before, required_before, is_all_word, part_kind, no_list, after_next, after_rest, after_required, part_with, part_at, listed_behind, listed_items, after_end, without_front, method_of, method_with, method_listed, method_front, method_items, named_of, named_with, named_at, named_items}
 use Rattle.dy_syntax.proofs.Lists.{some_one, map_some, then_some}
 use Rattle.dy_syntax.proofs.Sound.{NamedIs, InsideSound, ItemSound, ItemsSound, GroupSound, expression_sound}
 use Rattle.dy_syntax.proofs.Cuts.{behind_in, Separates, cut_sound, EndRow, end_row_sound}
-use Rattle.dy_syntax.proofs.TypeSound.{comma_is, comma_token, single_sound, VariableIs, variable_front_sound, variable_sound, marked_name, mark_is}
+use Rattle.dy_syntax.proofs.TypeSound.{comma_is, comma_token, single_sound, variable_front_sound, variable_sound, marked_name}
 use Rattle.dy_syntax.proofs.BodySound.{body_sound, equals_token, semicolon_token}
-use Rattle.dy_syntax.proofs.HeadSound.{HasBrackets, headed_sound}
+use Rattle.dy_syntax.proofs.HeadSound.{headed_sound}
 
 abbrev Fragments : Type 0
 Fragments = List SeenFragment

@@ -7,8 +7,7 @@ use Rattle.dy_tree.specs.Fragments.{SeenFragment, one, group, SeenFragments, row
 use Rattle.dy_syntax.specs.Trees.{Tree, literal, Argument}
 use Rattle.dy_syntax.specs.Roles.{Role, integer, character, string, boolean, symbol, named, operator, minus, tilde, assigns, dot, comma, role_of, nothing, Bracket, round, square, hidden, sharp_round, sharp_square, special, statement, bracket_of, positive}
 use Rattle.dy_syntax.specs.Arguments.{is_symbol, is_comma, is_comma_fragment, begins_operand, group_begins_operand, role_begins_value, group_begins_value, only_begins_operand, symbol_and_value, is_single, begins_value}
-use Rattle.dy_syntax.specs.Reading.{Outer, whole, Part, State, wants, counted, has, dotted, integer_part, at_operand, behind, behind_dot, group_behind, group_at_operand, tree_of, after_item, after_all, expression_items}
-use Rattle.dy_syntax.specs.Cutting.{Item}
+use Rattle.dy_syntax.specs.Reading.{Outer, whole, Part, State, wants, counted, has, dotted, integer_part, at_operand, behind, behind_dot, group_behind, group_at_operand, tree_of, after_item, expression_items}
 use Rattle.dy_syntax.specs.Fragments.{tree_inside, item_of, items_in, items_of, passed_in, expression_in}
 use Rattle.dy_syntax.proofs.Lists.{reads, items_row}
 

@@ -6,13 +6,12 @@ use Rattle.dy_tree.specs.declared.token.Token.{Token}
 use Rattle.dy_tree.specs.declared.types.LiteralForm.TheVariants as literals
 use Rattle.dy_tree.specs.Fragments.{SeenFragment, one, group, SeenFragments, row}
 use Rattle.dy_syntax.specs.Operators.{Precedence, power, product, sum, comparison, logical, below}
-use Rattle.dy_syntax.specs.ConstantTrees.{Constant}
 use Rattle.dy_syntax.specs.Trees.{Tree, assignment, operation, unary, literal, name, Argument, value, ForClause, StopTree, Listed}
 use Rattle.dy_syntax.specs.Types.{TypeTree, VariableTree, AreBounds, some_types, IsType, Bind, Give}
 use Rattle.dy_syntax.specs.Cutting.{Limits, Ending, Found, Item, fragments_in, Head, Caught, MethodFound, NamedFound}
 use Rattle.dy_syntax.specs.Roles.{Role, integer, character, string, boolean, symbol, named, operator, minus, tilde, assigns, dot, comma, role_of, precedence_of, Splitting, nothing, splits, Bracket, round, square, hidden, bracket_of, positive, sharp_round, sharp_square, statement, special, is_same, tests, steps}
 use Rattle.dy_syntax.specs.Arguments.{begins_value, passes_two, is_symbol}
-use Rattle.dy_syntax.specs.Expressions.{Brackets, is_integer_role, is_integer, Sort, leaf, operand, signed, level, expression, argument, some_arguments, arguments, Derives, integer_leaf, character_leaf, string_leaf, boolean_leaf, symbol_leaf, name_leaf, bracket_leaf, leaf_operand, call_operand, element_operand, member_operand, operand_signed, negative_signed, minus_signed, tilde_signed, signed_level, up_level, operation_level, level_expression, assignment_expression, keyword_argument, value_argument, one_argument, more_arguments, no_arguments, all_arguments, head, Catches, for_head, brackets, signature}
+use Rattle.dy_syntax.specs.Productions.{is_integer_role, is_integer, Sort, leaf, operand, signed, level, expression, argument, some_arguments, arguments, Derives, integer_leaf, character_leaf, string_leaf, boolean_leaf, symbol_leaf, name_leaf, bracket_leaf, leaf_operand, call_operand, element_operand, member_operand, operand_signed, negative_signed, minus_signed, tilde_signed, signed_level, up_level, operation_level, level_expression, assignment_expression, keyword_argument, value_argument, one_argument, more_arguments, no_arguments, all_arguments, head, Catches, for_head, brackets, signature}
 use Rattle.dy_syntax.specs.Reading.{Outer, whole, operated, under, assigned, Part, State, wants, counted, has, dotted, reduced, finished, under_sign, integer_part, name_if, at_operand, operates, assigns_to, behind, member_if, behind_dot, at_token, in_brackets, indexed, called, group_behind, group_at_operand, at_group, finished_part, tree_of, Passing, nothing_passed, passes_next, symbol_first, passing, argument_of, with_last, arguments_in, arguments_at_end, fresh_role, fresh, at_comma, at_separator, or_else, after_item, in_value, by_symbol, after_argument, after_all, after_passing, expression_items, passed_items}
 use Rattle.dy_syntax.proofs.Outers.{Fits, Ends, NoNegative, finished_reduced}
 use Rattle.dy_syntax.proofs.Lists.{some_one}

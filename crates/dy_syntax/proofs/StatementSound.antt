@@ -1,26 +1,22 @@
 -- What is read as a statement is derived.
-use Rattle.std.proofs.Common.{◌≡◌, Bool, true, false, List, [], ◌∷◌, ◌++◌, Option, Some, None, option_map, option_and_then, refl, sym, ap, subst, ◌∙◌}
+use Rattle.std.proofs.Common.{◌≡◌, true, false, List, [], ◌∷◌, ◌++◌, Option, Some, option_map, option_and_then, refl, sym, ap, subst, ◌∙◌}
 use Rattle.std.proofs.lemmas.List.{append-nil}
 use Rattle.dy_tree.specs.declared.token.Token.{Token}
 use Rattle.dy_tree.specs.Fragments.{SeenFragment, one, group, SeenFragments, row}
 use Rattle.dy_syntax.specs.Operators.{Guard}
-use Rattle.dy_syntax.specs.Trees.{Tree, begin_tree, if_tree, guarded, ItemTree, expression_item, body_of, Alternative, alternative, alternatives_of, Otherwise, no_otherwise, otherwise}
-use Rattle.dy_syntax.specs.Types.{is_equals, TypeTree, a_type, IsType, binds_plainly, TargetTree, IsTarget}
-use Rattle.dy_syntax.specs.TypeReading.{type_items, target_items}
-use Rattle.dy_syntax.specs.Roles.{Role, lets, handlers, semicolon, role_of, Splitting, nothing, branches, Splitter, else_word, elseif_word, no_splitter, splitter_of, Keyword, begin_word, if_word, guard_word, Bracket, round, statement, bracket_of, case_word, select_word, block_word, for_word, method_word, define_word}
-use Rattle.dy_syntax.specs.Expressions.{leaf, expression, an_item, some_items, a_body, alternatives, Derives, begin_leaf, if_leaf, guarded_leaf, by_let, by_handler, by_expression, last_item, more_items, empty_body, separator_body, items_body, ended_body, no_alternatives, by_else, more_alternatives, arms, case_leaf, select_leaf, signature, method_leaf}
-use Rattle.dy_syntax.specs.Cutting.{Sides, first_cut, Item, Piece, Pieces, is_semicolon, is_semicolon_role, is_splitter, cut, each, without_end, without_if, fragments_in, Front, front_in, front_at, headed, word_of}
-use Rattle.dy_syntax.specs.Reading.{expression_items}
-use Rattle.dy_syntax.specs.Bodies.{ItemFront, let_front, other_front, front_by, front_of_item, is_equals_at, is_handler_role, is_handler, let_of, handler_of, let_with, handler_with, bound_at, bound_from, let_if, let_sides, item_by, item_items, nonempty_body, body_items}
-use Rattle.dy_syntax.specs.StatementReading.{Tested, tested_by, tested_in, tested_at, tested, Others, by_body, with_alternative, with_body, with_test, if_last, other_at, others_of, begin_of, guarded_of, guarded_items, if_of, if_body, if_pieces, if_items, statement_items, case_of, select_of, select_with, select_items, method_statement}
+use Rattle.dy_syntax.specs.Trees.{Tree}
+use Rattle.dy_syntax.specs.Roles.{Splitting, nothing, branches, Splitter, else_word, elseif_word, Keyword, begin_word, if_word, guard_word, statement, bracket_of, case_word, select_word, block_word, for_word, method_word, define_word}
+use Rattle.dy_syntax.specs.Productions.{leaf, a_body, alternatives, Derives, begin_leaf, if_leaf, guarded_leaf, no_alternatives, by_else, more_alternatives, arms, case_leaf, select_leaf, signature, method_leaf}
+use Rattle.dy_syntax.specs.Cutting.{Item, Piece, Pieces, is_splitter, cut, fragments_in, headed, word_of}
+use Rattle.dy_syntax.specs.Bodies.{body_items}
+use Rattle.dy_syntax.specs.StatementReading.{tested, Others, by_body, with_alternative, with_body, with_test, if_last, other_at, others_of, begin_of, guarded_of, guarded_items, if_of, if_body, if_items, statement_items, case_of, select_of, select_with, select_items, method_statement}
 use Rattle.dy_syntax.proofs.Lists.{some_one, map_some, then_some}
-use Rattle.dy_syntax.proofs.Sound.{Holds, HoldsIf, ItemSound, ItemsSound, GroupSound, expression_sound, InsideSound}
-use Rattle.dy_syntax.proofs.TypeSound.{type_sound, target_sound}
-use Rattle.dy_syntax.proofs.Cuts.{AreSides, first_cut_sound, Separates, Row, row_sound, behind_in, pieces_in, cut_sound}
-use Rattle.dy_syntax.specs.Choices.{Choices, arms_items}
+use Rattle.dy_syntax.proofs.Sound.{ItemsSound}
+use Rattle.dy_syntax.proofs.Cuts.{Separates, behind_in, cut_sound}
+use Rattle.dy_syntax.specs.Choices.{arms_items}
 use Rattle.dy_syntax.proofs.BodySound.{body_sound}
 use Rattle.dy_syntax.proofs.ChoiceSound.{arms_sound}
-use Rattle.dy_syntax.proofs.HeadSound.{HasTest, tested_sound, HasBrackets, headed_sound, word_token}
+use Rattle.dy_syntax.proofs.HeadSound.{tested_sound, headed_sound, word_token}
 use Rattle.dy_syntax.proofs.BlockSound.{block_sound}
 use Rattle.dy_syntax.proofs.LoopSound.{for_sound}
 use Rattle.dy_syntax.specs.Signatures.{method_items}

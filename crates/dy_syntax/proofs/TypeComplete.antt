@@ -1,22 +1,21 @@
 -- What is a type or a variable is read as one.
-use Rattle.std.proofs.Common.{◌≡◌, ◌≢◌, ℕ, Bool, true, false, cond, not, ◌&&◌, ◌||◌, List, [], ◌∷◌, ◌++◌, codes, Option, Some, None, option_map, option_and_then, refl, sym, ap, subst, ◌∙◌, append_assoc}
+use Rattle.std.proofs.Common.{◌≡◌, ◌≢◌, ℕ, Bool, true, false, cond, not, ◌&&◌, ◌||◌, List, [], ◌∷◌, ◌++◌, codes, Option, Some, option_map, option_and_then, refl, sym, ap, subst, ◌∙◌}
 use Rattle.std.proofs.lemmas.List.{append-nil}
-use Rattle.std.specs.List.{list_any}
 use Rattle.dy_tree.specs.declared.token.TokenKind.{TokenKind}
 use Rattle.dy_tree.specs.declared.token.TokenKind.TheVariants as kinds
 use Rattle.dy_tree.specs.declared.token.Token.{Token}
 use Rattle.dy_tree.specs.declared.types.IntegerForm.{IntegerForm}
 use Rattle.dy_tree.specs.declared.types.LiteralForm.{LiteralForm}
 use Rattle.dy_tree.specs.Fragments.{SeenFragment, one, group, SeenFragments, no_fragment, fragment_and, row}
-use Rattle.dy_syntax.specs.Roles.{Role, integer, boolean, named, colons, comma, minus, other, role_by, role_of, Bracket, round, square, hidden, sharp_round, sharp_square, statement, special, bracket_of, is_same, is_among, Splitting}
+use Rattle.dy_syntax.specs.Roles.{Role, boolean, named, colons, comma, other, role_by, role_of, Bracket, round, square, hidden, sharp_round, sharp_square, statement, special, bracket_of, is_same, is_among}
 use Rattle.dy_syntax.specs.Constants.{token_literal, one_token, negative_integer}
 use Rattle.dy_syntax.specs.Arguments.{is_comma, is_comma_fragment}
-use Rattle.dy_syntax.specs.Types.{is_mark_kind, is_symbol_kind, is_mark, Single, literal_single, IsSingle, of_literal, of_empty_list, of_name, Bound, is_bound, IsInteger, plain_number, negative_number, AreBounds, no_bound, bound_and, TypeTree, named_type, singleton_type, union_type, limited_type, types_of, TypeWord, singleton_word, union_word, limited_word, no_type_word, type_word, TypeSort, a_type, some_types, IsType, by_name, by_singleton, by_union, by_limits, one_type, more_types, is_round, begins_round, is_type_word, takes_brackets, VariableTree, declares_brackets, IsVariable, untyped, typed, is_splitting, binds_plainly, Bind, last_bound, rest_bound, more_bound, TargetTree, one_target, several, IsTarget, by_variable, by_nothing, by_brackets, is_colons_role, variable_apart, begins_with}
-use Rattle.dy_syntax.specs.Cutting.{Limits, Ending, Found, Item, Piece, Pieces, is_let_role, is_let, is_splitter, cut, each_other, with_others, fragments_in, ending}
-use Rattle.dy_syntax.specs.TypeReading.{single_token, negative_single, single_group, single_in, plain_integer, negative_integer_of, integer_in, bound_of, bound_if, bound_in, bound_items, is_integer_class, limits_of, limits_if, limits_in, limits_pieces, limits_items, TypeFront, in_front, name_front, union_of, limited_of, form_type, word_front, group_front, front_behind, type_from, type_named, type_at, type_front, if_whole, whole_type, type_items, types_items, VariableFront, untyped_front, typed_front, is_colons, variable_if, variable_from, variable_named, variable_at, variable_front, whole_variable, variable_items, is_marked, marked, named_token, name_in, name_items, bind_items, several_of, target_in, target_group, target_one, target_if, target_items}
+use Rattle.dy_syntax.specs.Types.{is_mark_kind, is_symbol_kind, is_mark, Single, literal_single, IsSingle, of_literal, of_empty_list, of_name, Bound, is_bound, IsInteger, plain_number, negative_number, AreBounds, no_bound, bound_and, TypeTree, named_type, singleton_type, limited_type, TypeWord, singleton_word, union_word, limited_word, no_type_word, type_word, TypeSort, a_type, some_types, IsType, by_name, by_singleton, by_union, by_limits, one_type, more_types, is_round, begins_round, is_type_word, takes_brackets, VariableTree, declares_brackets, IsVariable, untyped, typed, Bind, last_bound, rest_bound, more_bound, TargetTree, one_target, IsTarget, by_variable, by_nothing, by_brackets, is_colons_role, variable_apart, begins_with}
+use Rattle.dy_syntax.specs.Cutting.{Ending, Item, Piece, is_let_role, is_let, cut, each_other, with_others, fragments_in}
+use Rattle.dy_syntax.specs.TypeReading.{single_token, single_group, single_in, integer_in, bound_of, bound_if, bound_in, bound_items, is_integer_class, limits_of, limits_if, limits_in, limits_pieces, limits_items, TypeFront, in_front, union_of, limited_of, form_type, word_front, group_front, front_behind, type_from, type_named, type_front, whole_type, type_items, types_items, VariableFront, untyped_front, typed_front, is_colons, variable_if, variable_from, variable_named, variable_front, whole_variable, variable_items, marked, name_items, bind_items, several_of, target_in, target_if, target_items}
 use Rattle.dy_syntax.specs.Fragments.{item_of, items_of, items_in, found_in}
-use Rattle.dy_syntax.proofs.Lists.{some_one, items_row, fragments_back}
-use Rattle.dy_syntax.proofs.Cuts.{Closed, ended, joined, cut_end, cut_on}
+use Rattle.dy_syntax.proofs.Lists.{items_row, fragments_back}
+use Rattle.dy_syntax.proofs.Cuts.{Closed, joined, cut_end}
 use Rattle.dy_syntax.proofs.Rows.{joined_on, row_last, row_more, ending_only, ending_last, ending_more, items_append}
 
 abbrev Fragments : Type 0

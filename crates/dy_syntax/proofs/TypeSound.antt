@@ -1,15 +1,15 @@
 -- What is read as a type or as a variable is one.
-use Rattle.std.proofs.Common.{◌≡◌, ℕ, Bool, true, false, List, [], ◌∷◌, ◌++◌, codes, Option, Some, None, option_map, option_and_then, refl, sym, ap, subst, ◌∙◌, append_assoc, not, ◌&&◌}
+use Rattle.std.proofs.Common.{◌≡◌, ℕ, Bool, true, false, List, [], ◌∷◌, ◌++◌, codes, Option, Some, None, option_map, refl, sym, ap, subst, ◌∙◌, not, ◌&&◌}
 use Rattle.std.proofs.lemmas.List.{append-nil}
 use Rattle.dy_tree.specs.declared.token.Token.{Token}
 use Rattle.dy_tree.specs.declared.types.IntegerForm.{IntegerForm}
 use Rattle.dy_tree.specs.declared.types.LiteralForm.{LiteralForm}
 use Rattle.dy_tree.specs.Fragments.{SeenFragment, one, group, SeenFragments, no_fragment, fragment_and, row}
-use Rattle.dy_syntax.specs.Roles.{Role, integer, character, string, boolean, symbol, named, colons, comma, minus, role_of, Bracket, round, sharp_round, bracket_of, is_same}
+use Rattle.dy_syntax.specs.Roles.{Role, integer, named, colons, comma, minus, role_of, Bracket, round, sharp_round, bracket_of, is_same}
 use Rattle.dy_syntax.specs.Constants.{token_literal, one_token, negative_integer}
 use Rattle.dy_syntax.specs.Arguments.{is_comma, is_comma_fragment}
-use Rattle.dy_syntax.specs.Types.{is_mark, Single, literal_single, IsSingle, of_literal, of_empty_list, of_name, Bound, is_bound, IsInteger, plain_number, negative_number, AreBounds, no_bound, bound_and, TypeTree, named_type, singleton_type, TypeWord, singleton_word, union_word, limited_word, no_type_word, type_word, a_type, some_types, IsType, by_name, by_singleton, by_union, by_limits, one_type, more_types, is_round, begins_round, is_type_word, takes_brackets, VariableTree, declares_brackets, IsVariable, untyped, typed, Bind, last_bound, rest_bound, more_bound, TargetTree, one_target, several, IsTarget, by_variable, by_nothing, by_brackets, is_colons_role, variable_apart, begins_with}
-use Rattle.dy_syntax.specs.Cutting.{Limits, Ending, Found, Item, Piece, Pieces, cut, each_other, with_others, fragments_in}
+use Rattle.dy_syntax.specs.Types.{is_mark, Single, literal_single, IsSingle, of_literal, of_empty_list, of_name, Bound, is_bound, IsInteger, plain_number, negative_number, AreBounds, no_bound, bound_and, TypeTree, singleton_type, TypeWord, singleton_word, union_word, limited_word, no_type_word, type_word, a_type, some_types, IsType, by_name, by_singleton, by_union, by_limits, one_type, more_types, is_round, begins_round, is_type_word, takes_brackets, VariableTree, IsVariable, untyped, typed, Bind, last_bound, rest_bound, more_bound, TargetTree, one_target, IsTarget, by_variable, by_nothing, by_brackets, is_colons_role, variable_apart, begins_with}
+use Rattle.dy_syntax.specs.Cutting.{Limits, Ending, Found, Item, Piece, Pieces, cut, each_other, fragments_in}
 use Rattle.dy_syntax.specs.TypeReading.{single_token, negative_single, single_group, single_in, plain_integer, negative_integer_of, integer_in, bound_of, bound_if, bound_in, bound_items, is_integer_class, limits_of, limits_if, limits_in, limits_items, TypeFront, in_front, name_front, union_of, limited_of, form_type, word_front, group_front, front_behind, type_from, type_named, type_at, type_front, if_whole, whole_type, type_items, types_items, VariableFront, untyped_front, typed_front, is_colons, variable_if, variable_from, variable_named, variable_at, variable_front, whole_variable, variable_items, is_marked, marked, named_token, name_in, name_items, bind_items, several_of, target_in, target_group, target_one, target_if, target_items}
 use Rattle.dy_syntax.proofs.Lists.{some_one, map_some, then_some}
 use Rattle.dy_syntax.proofs.Sound.{LimitsAre, InsideSound, ItemSound, ItemsSound, GroupSound}

@@ -5,13 +5,11 @@ use Rattle.std.specs.List.{list_any}
 use Rattle.dy_tree.specs.declared.token.TokenKind.TheVariants as kinds
 use Rattle.dy_tree.specs.declared.token.Token.{Token}
 use Rattle.dy_tree.specs.declared.types.IntegerForm.{IntegerForm}
-use Rattle.dy_tree.specs.declared.types.LiteralForm.{LiteralForm}
-use Rattle.dy_tree.specs.Fragments.{SeenFragment, one, group, SeenFragments, no_fragment, row, pack}
-use Rattle.dy_syntax.specs.Roles.{named, colons, role_of, round, sharp_round, bracket_of, begun_by, is_same, Splitting, splits}
-use Rattle.dy_syntax.specs.Constants.{IsLiteral}
-use Rattle.dy_syntax.specs.Types.{Single, IsSingle, of_literal, of_empty_list, of_name, Bound, IsInteger, plain_number, negative_number, AreBounds, no_bound, bound_and, TypeTree, TypeTrees, type_and, types_of, TypeSort, a_type, some_types, IsType, by_name, by_singleton, by_union, by_limits, one_type, more_types, VariableTree, IsVariable, untyped, typed, is_splitting, binds_plainly, Bind, last_bound, rest_bound, more_bound, TargetTree, IsTarget, by_variable, by_nothing, by_brackets, Give, last_given, rest_given, more_given, ResultTree, several_results, one_result, by_result, by_no_results, by_results, ResultsPart, no_results, some_results, apart, variable_apart, takes_brackets, RequiredTree, IsRequired, any_value, one_value}
-use Rattle.dy_syntax.specs.Marks.{made, mark, in_round, written_integer, written_literal, comma_mark, list_group, colons_mark, rest_mark, semicolon_mark}
-use Rattle.dy_syntax.specs.TypeWriting.{written_single, written_bounds, written_type, written_types, types_behind, written_declared, written_variable, written_bound, written_target, written_given, written_results, written_required}
+use Rattle.dy_tree.specs.Fragments.{SeenFragment, one, row, pack}
+use Rattle.dy_syntax.specs.Roles.{begun_by, Splitting, splits}
+use Rattle.dy_syntax.specs.Types.{Single, IsSingle, of_literal, of_empty_list, of_name, Bound, IsInteger, plain_number, negative_number, AreBounds, no_bound, bound_and, TypeTree, types_of, TypeSort, a_type, some_types, IsType, by_name, by_singleton, by_union, by_limits, one_type, more_types, VariableTree, IsVariable, untyped, typed, is_splitting, binds_plainly, Bind, last_bound, rest_bound, more_bound, TargetTree, IsTarget, by_variable, by_nothing, by_brackets, Give, last_given, rest_given, more_given, ResultTree, several_results, one_result, by_result, by_no_results, by_results, ResultsPart, no_results, some_results, apart, variable_apart, takes_brackets, RequiredTree, IsRequired, any_value, one_value}
+use Rattle.dy_syntax.specs.Marks.{made, mark, in_round, written_integer, written_literal, comma_mark, semicolon_mark}
+use Rattle.dy_syntax.specs.TypeWriting.{written_single, written_bounds, written_type, written_types, types_behind, written_variable, written_bound, written_target, written_given, written_results, written_required}
 use Rattle.dy_syntax.proofs.Lists.{row_pack}
 use Rattle.dy_syntax.proofs.Inner.{splits_no_splitter}
 use Rattle.dy_syntax.proofs.WrittenConstants.{literal_written, list_closed}

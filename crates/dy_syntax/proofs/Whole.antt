@@ -1,11 +1,11 @@
 -- What is read of fragments is the expression that they stand for, and only that.
-use Rattle.std.proofs.Common.{◌≡◌, true, List, [], Option, Some, None, option_and_then, refl, sym, ap, subst, ◌∙◌}
+use Rattle.std.proofs.Common.{◌≡◌, true, List, Option, Some, option_and_then, sym, ap, subst, ◌∙◌}
 use Rattle.dy_tree.specs.Fragments.{SeenFragment, SeenFragments, row}
 use Rattle.dy_syntax.specs.Trees.{Tree, Argument, ItemTree, body_of}
 use Rattle.dy_syntax.specs.Roles.{Splitting, nothing}
-use Rattle.dy_syntax.specs.Expressions.{expression, arguments, a_body, Derives}
+use Rattle.dy_syntax.specs.Productions.{expression, arguments, a_body, Derives}
 use Rattle.dy_syntax.specs.Reading.{whole, tree_of, arguments_at_end, State, Passing, expression_items}
-use Rattle.dy_syntax.specs.Fragments.{items_of, expression_in, expression_of, passed_of, body_of_fragments}
+use Rattle.dy_syntax.specs.Fragments.{items_of, expression_of, passed_of, body_of_fragments}
 use Rattle.dy_syntax.specs.Arguments.{is_single}
 use Rattle.dy_syntax.specs.Writing.{written, written_body}
 use Rattle.dy_syntax.proofs.Singles.{single_read}

@@ -1,9 +1,8 @@
 -- What is read of fragments is the form that they stand for, and only that.
-use Rattle.std.proofs.Common.{◌≡◌, List, Some, sym, ap, subst, ◌∙◌}
+use Rattle.std.proofs.Common.{◌≡◌, List, Some, sym, subst, ◌∙◌}
 use Rattle.dy_tree.specs.Fragments.{SeenFragment}
 use Rattle.dy_syntax.specs.Types.{TypeTree, a_type, IsType, TargetTree, IsTarget}
 use Rattle.dy_syntax.specs.TypeReading.{type_items, target_items}
-use Rattle.dy_syntax.specs.TypeWriting.{written_type, written_target}
 use Rattle.dy_syntax.specs.Fragments.{items_of}
 use Rattle.dy_syntax.specs.Forms.{FormTree, IsForm}
 use Rattle.dy_syntax.specs.FormReading.{form_of}

@@ -1,22 +1,20 @@
 -- What a tree is written as is derived to it.
-use Rattle.std.proofs.Common.{◌≡◌, ℕ, suc, ◌≤◌, Bool, true, false, cond, not, ◌||◌, List, [], ◌∷◌, ◌++◌, Some, None, codes, refl, sym, ap, subst, ◌∙◌, append_assoc, arith, Option}
+use Rattle.std.proofs.Common.{◌≡◌, ℕ, suc, ◌≤◌, Bool, true, false, not, ◌||◌, List, [], ◌∷◌, ◌++◌, Some, None, codes, refl, sym, ap, subst, ◌∙◌, append_assoc, arith, Option}
 use Rattle.std.proofs.lemmas.List.{append-nil}
-use Rattle.dy_tree.specs.declared.token.TokenKind.{TokenKind}
 use Rattle.dy_tree.specs.declared.token.TokenKind.TheVariants as kinds
 use Rattle.dy_tree.specs.declared.token.Token.{Token}
 use Rattle.dy_tree.specs.declared.types.LiteralForm.TheVariants as literals
 use Rattle.dy_tree.specs.Fragments.{SeenFragment, one, group, SeenFragments, row, pack}
 use Rattle.dy_syntax.specs.Operators.{Precedence, power, product, sum, comparison, logical, below}
-use Rattle.dy_syntax.specs.ConstantTrees.{Constant, constants_of, tail_of}
-use Rattle.dy_syntax.specs.Trees.{Tree, assignment, operation, unary, call, element, member, literal, name, Argument, arguments_of, list, vector, begin_tree, if_tree, guarded, Body, item_and, ItemTree, body_of, Alternative, alternatives_of, Otherwise, otherwise, case_tree, select_tree, maybe_of, arms_of, Arm, arm, tests_of, no_otherwise, block_tree, for_tree, block_clauses_of, ForClause, for_clauses_of, StopTree, stop_of, no_limit, method_tree, parameters_of, Listed, KeysTree, maybe_keys, keys_of, Key, a_key, MaybeTree, LocalMethod, local_method, methods_of}
-use Rattle.dy_syntax.specs.Roles.{Role, integer, character, string, boolean, symbol, named, minus, role_of, precedence_of, Splitting, nothing, branches, endings, last_part, steps, tests, splits_as, Splitter, splits, splitter_of, semicolon, Keyword, begin_word, if_word, guard_word, statement, is_word, bracket_of, Bracket, positive, negative, round, square, hidden, sharp_round, sharp_square, special, begun_by, closed_by, is_sign, case_word, select_word, block_word, for_word, method_word}
+use Rattle.dy_syntax.specs.ConstantTrees.{constants_of, tail_of}
+use Rattle.dy_syntax.specs.Trees.{Tree, assignment, operation, unary, call, element, member, literal, name, Argument, arguments_of, list, vector, begin_tree, if_tree, guarded, ItemTree, body_of, alternatives_of, Otherwise, otherwise, case_tree, select_tree, maybe_of, arms_of, Arm, arm, tests_of, no_otherwise, block_tree, for_tree, block_clauses_of, ForClause, for_clauses_of, StopTree, stop_of, no_limit, method_tree, parameters_of, Listed, KeysTree, maybe_keys, keys_of, a_key, MaybeTree, LocalMethod, local_method, methods_of}
+use Rattle.dy_syntax.specs.Roles.{Role, integer, symbol, named, minus, role_of, precedence_of, Splitting, nothing, branches, endings, last_part, steps, tests, splits, Keyword, begin_word, if_word, guard_word, statement, bracket_of, positive, negative, begun_by, case_word, select_word, block_word, for_word, method_word}
 use Rattle.dy_syntax.specs.Arguments.{passes_two, is_symbol}
-use Rattle.dy_syntax.specs.Expressions.{is_integer, is_integer_role, Sort, leaf, operand, signed, level, expression, argument, some_arguments, arguments, Derives, integer_leaf, character_leaf, string_leaf, boolean_leaf, symbol_leaf, name_leaf, bracket_leaf, leaf_operand, call_operand, element_operand, member_operand, operand_signed, negative_signed, minus_signed, tilde_signed, signed_level, up_level, operation_level, level_expression, assignment_expression, keyword_argument, value_argument, one_argument, more_arguments, no_arguments, all_arguments, list_leaf, vector_leaf, an_item, some_items, a_body, alternatives, begin_leaf, guarded_leaf, if_leaf, by_let, by_handler, by_expression, last_item, more_items, empty_body, separator_body, items_body, ended_body, no_alternatives, by_else, more_alternatives, some_tests, open_body, choices, arms, head, case_leaf, select_leaf, one_test, more_tests, empty_open, items_open, last_arm, more_arms, last_choice, last_choice_arrow, no_arms, some_arms, ended_arms, by_identity, by_test, block_clauses, for_clause, range, for_clauses, for_head, ending_part, block_leaf, for_leaf, no_block_clause, by_afterwards, by_cleanup, by_exception, by_then, by_in, by_from, no_range, step_range, limit_range, last_clause, only_stop, more_clauses, empty_head, some_clauses, no_finally, by_finally, IsExit, no_exit, an_exit, Catches, without_variable, with_variable, list_of, initial, key, more_keys, listed, brackets, signature, local_methods, method_leaf, no_initial, by_initial, plain_key, named_key, no_more_keys, all_keys, key_and_more, last_required, more_required, last_next, more_next, last_rest, more_rest, bare_keys, first_key, empty_brackets, some_listed, by_signature, by_local, last_method, more_methods}
-use Rattle.dy_syntax.specs.Marks.{made, mark, in_round, in_square, assigns_mark, dot_mark, comma_mark, written_literal, semicolon_mark, word_mark, statement_group, arrow_mark, next_mark, rest_mark, key_mark}
-use Rattle.dy_syntax.specs.Writing.{splits_some, bracketed, operand_bracketed, splits_tree, minus_bracketed, is_minus_role, unary_bracketed, plain, written_arguments, written_rest, written_argument, written, written_operand, written_constant, written_items, rest_of_items, written_tail, written_body, items_behind, written_item, written_alternatives, written_otherwise, written_test, written_arms, written_arm, written_tests, tests_behind, written_remains, joined_choices, joined_clauses, written_exit, written_caught, written_clauses, written_for, written_for_clause, written_limit, written_step, written_stop, written_finally, written_signature, written_keys, first_keys, keys_behind, written_key, written_initial, written_methods, methods_behind, written_method, written_all, written_label}
-use Rattle.dy_syntax.specs.Constants.{token_literal, IsLiteral, one_token, negative_integer, ConstantSort, constant, some_constants, in_list, in_vector, IsConstant, literal_constant, list_constant, vector_constant, one_constant, more_constants, empty_list, proper_list, improper_list, empty_vector, full_vector}
-use Rattle.dy_tree.specs.declared.types.LiteralForm.{LiteralForm}
-use Rattle.dy_syntax.proofs.Lists.{row_pack, some_one}
+use Rattle.dy_syntax.specs.Productions.{is_integer, is_integer_role, Sort, leaf, operand, signed, level, expression, argument, some_arguments, arguments, Derives, integer_leaf, character_leaf, string_leaf, boolean_leaf, symbol_leaf, name_leaf, bracket_leaf, leaf_operand, call_operand, element_operand, member_operand, operand_signed, negative_signed, minus_signed, tilde_signed, signed_level, up_level, operation_level, level_expression, assignment_expression, keyword_argument, value_argument, one_argument, more_arguments, no_arguments, all_arguments, list_leaf, vector_leaf, an_item, some_items, a_body, alternatives, begin_leaf, guarded_leaf, if_leaf, by_let, by_handler, by_expression, last_item, more_items, empty_body, separator_body, items_body, ended_body, no_alternatives, by_else, more_alternatives, some_tests, open_body, choices, arms, head, case_leaf, select_leaf, one_test, more_tests, empty_open, items_open, last_arm, more_arms, last_choice, last_choice_arrow, no_arms, some_arms, ended_arms, by_identity, by_test, block_clauses, for_clause, range, for_clauses, for_head, ending_part, block_leaf, for_leaf, no_block_clause, by_afterwards, by_cleanup, by_exception, by_then, by_in, by_from, no_range, step_range, limit_range, last_clause, only_stop, more_clauses, empty_head, some_clauses, no_finally, by_finally, IsExit, no_exit, an_exit, Catches, without_variable, with_variable, list_of, initial, key, more_keys, listed, brackets, signature, local_methods, method_leaf, no_initial, by_initial, plain_key, named_key, no_more_keys, all_keys, key_and_more, last_required, more_required, last_next, more_next, last_rest, more_rest, bare_keys, first_key, empty_brackets, some_listed, by_signature, by_local, last_method, more_methods}
+use Rattle.dy_syntax.specs.Marks.{made, mark, in_round, in_square, assigns_mark, dot_mark, comma_mark, semicolon_mark, word_mark, statement_group, arrow_mark, next_mark, rest_mark, key_mark}
+use Rattle.dy_syntax.specs.Writing.{splits_some, bracketed, operand_bracketed, splits_tree, minus_bracketed, is_minus_role, unary_bracketed, plain, written_arguments, written_rest, written_argument, written, written_operand, written_items, written_tail, written_body, items_behind, written_item, written_alternatives, written_otherwise, written_test, written_arms, written_arm, written_tests, tests_behind, written_remains, joined_choices, joined_clauses, written_exit, written_caught, written_clauses, written_for, written_for_clause, written_limit, written_step, written_stop, written_finally, written_signature, written_keys, first_keys, keys_behind, written_key, written_initial, written_methods, methods_behind, written_method, written_all, written_label}
+use Rattle.dy_syntax.specs.Constants.{in_list, in_vector, IsConstant}
+use Rattle.dy_syntax.proofs.Lists.{row_pack}
 use Rattle.dy_syntax.specs.TypeWriting.{written_type, written_target, written_variable, written_results, written_required, required_joined, next_joined, rest_joined}
 use Rattle.dy_syntax.proofs.TypeWritten.{type_writes, target_writes, type_splits, target_plain, variable_writes, variable_plain, results_write, semicolon_apart, required_writes}
 use Rattle.dy_syntax.proofs.Sound.{raised}

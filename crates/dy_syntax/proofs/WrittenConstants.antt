@@ -1,10 +1,10 @@
 -- What literals, lists and vectors are written as stands for them.
-use Rattle.std.proofs.Common.{◌≡◌, Bool, true, false, cond, List, [], ◌∷◌, ◌++◌, Option, Some, None, codes, refl, sym, ap, subst, ◌∙◌, append_assoc}
+use Rattle.std.proofs.Common.{◌≡◌, Bool, true, false, cond, List, [], ◌∷◌, ◌++◌, Some, None, codes, refl, sym, ap, subst, ◌∙◌, append_assoc}
 use Rattle.std.proofs.lemmas.List.{append-nil}
 use Rattle.dy_tree.specs.declared.token.TokenKind.TheVariants as kinds
 use Rattle.dy_tree.specs.declared.token.Token.{Token}
 use Rattle.dy_tree.specs.declared.types.LiteralForm.{LiteralForm}
-use Rattle.dy_tree.specs.Fragments.{SeenFragment, one, group, SeenFragments, row, pack}
+use Rattle.dy_tree.specs.Fragments.{SeenFragment, one, row, pack}
 use Rattle.dy_syntax.specs.ConstantTrees.{Constant, constants_of, tail_of}
 use Rattle.dy_syntax.specs.Roles.{Role, integer, character, string, boolean, symbol, role_of, Keyword, statement, is_word, Bracket, round, square, hidden, sharp_round, sharp_square, special, begun_by, closed_by, is_sign}
 use Rattle.dy_syntax.specs.Marks.{made, mark, comma_mark, dot_mark, written_literal}

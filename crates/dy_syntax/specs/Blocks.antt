@@ -1,11 +1,11 @@
 -- The clauses of a block, by functions that compute.
 use Rattle.std.specs.Prelude.{Bool, true, false, List, [], ◌∷◌, Option, Some, None, option_map, option_and_then}
 use Rattle.dy_tree.specs.declared.token.Token.{Token}
-use Rattle.dy_tree.specs.Fragments.{SeenFragment, one, group, SeenFragments, row}
+use Rattle.dy_tree.specs.Fragments.{SeenFragment, one, group, row}
 use Rattle.dy_syntax.specs.Types.{TypeTree}
 use Rattle.dy_syntax.specs.Trees.{Tree, block_tree, ItemTree, body_of, BlockClause, afterwards_clause, cleanup_clause, exception_clause, block_clauses_of}
-use Rattle.dy_syntax.specs.Roles.{Role, named, role_of, endings, Splitter, afterwards_word, cleanup_word, exception_word, Bracket, round, bracket_of}
-use Rattle.dy_syntax.specs.Expressions.{suit_block}
+use Rattle.dy_syntax.specs.Roles.{Role, named, role_of, endings, Splitter, afterwards_word, cleanup_word, exception_word}
+use Rattle.dy_syntax.specs.Productions.{suit_block}
 use Rattle.dy_syntax.specs.Cutting.{Caught, Item, Piece, Pieces, is_splitter, cut, with_others, Front, headed, word_of}
 use Rattle.dy_syntax.specs.TypeReading.{type_items, is_colons}
 use Rattle.dy_syntax.specs.Bodies.{body_items}

@@ -1,13 +1,12 @@
 -- The bodies and statements that items stand for, by functions that compute.
-use Rattle.std.specs.Prelude.{Bool, true, false, if◌then◌else◌, List, [], ◌∷◌, Option, Some, None, option_map, option_and_then}
+use Rattle.std.specs.Prelude.{Bool, true, false, List, [], ◌∷◌, Option, Some, None, option_map, option_and_then}
 use Rattle.dy_tree.specs.declared.token.Token.{Token}
 use Rattle.dy_tree.specs.Fragments.{SeenFragment, one, group}
-use Rattle.dy_syntax.specs.Operators.{Guard}
-use Rattle.dy_syntax.specs.Trees.{Tree, begin_tree, if_tree, guarded, ItemTree, let_item, handler_item, expression_item, body_of, Alternative, alternative, alternatives_of, Otherwise, no_otherwise, otherwise, local_item, LocalMethod, local_method, methods_of, parameters_of}
+use Rattle.dy_syntax.specs.Trees.{Tree, ItemTree, let_item, handler_item, expression_item, body_of, local_item, LocalMethod, local_method, methods_of, parameters_of}
 use Rattle.dy_syntax.specs.Types.{is_equals, TypeTree, binds_plainly, TargetTree}
 use Rattle.dy_syntax.specs.TypeReading.{type_items, target_items}
-use Rattle.dy_syntax.specs.Roles.{Role, lets, handlers, role_of, Splitting, nothing, branches, Splitter, else_word, elseif_word, no_splitter, splitter_of, Keyword, begin_word, if_word, guard_word, Bracket, round, bracket_of, locals, statement, method_word}
-use Rattle.dy_syntax.specs.Cutting.{Item, Piece, Pieces, is_semicolon, is_splitter, cut, each, without_end, Sides, first_cut, fragments_in, NamedFound}
+use Rattle.dy_syntax.specs.Roles.{Role, lets, handlers, role_of, Splitting, Bracket, bracket_of, locals, statement, method_word}
+use Rattle.dy_syntax.specs.Cutting.{Item, is_semicolon, cut, each, without_end, Sides, first_cut, fragments_in, NamedFound}
 use Rattle.dy_syntax.specs.Reading.{expression_items}
 use Rattle.dy_syntax.specs.Arguments.{is_comma_fragment}
 

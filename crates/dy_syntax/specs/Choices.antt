@@ -2,9 +2,9 @@
 use Rattle.std.specs.Prelude.{Bool, true, false, List, [], ◌∷◌, Option, Some, None, option_map, option_and_then}
 use Rattle.dy_tree.specs.Fragments.{SeenFragment, one, group}
 use Rattle.dy_syntax.specs.Trees.{Tree, ItemTree, body_of, Otherwise, no_otherwise, otherwise, Arm, arm, tests_of}
-use Rattle.dy_syntax.specs.Roles.{Role, remains, role_of, Splitting, nothing, tests, splits}
+use Rattle.dy_syntax.specs.Roles.{Role, remains, role_of, Splitting, nothing, tests}
 use Rattle.dy_syntax.specs.Arguments.{is_comma_fragment}
-use Rattle.dy_syntax.specs.Expressions.{suits}
+use Rattle.dy_syntax.specs.Productions.{suits}
 use Rattle.dy_syntax.specs.Cutting.{Head, Item, Piece, Pieces, is_semicolon, is_arrow, is_splitter, cut, each, without_end}
 use Rattle.dy_syntax.specs.Reading.{expression_items}
 use Rattle.dy_syntax.specs.Bodies.{item_items}

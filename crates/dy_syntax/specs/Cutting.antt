@@ -3,7 +3,7 @@ use Rattle.std.specs.Prelude.{Bool, true, false, not, ◌&&◌, List, [], ◌∷
 use Rattle.dy_tree.specs.Fragments.{SeenFragment, one, group}
 use Rattle.dy_tree.specs.declared.token.Token.{Token}
 use Rattle.dy_syntax.specs.Trees.{Tree, Argument, ForClause, StopTree, Listed, ItemTree}
-use Rattle.dy_syntax.specs.Roles.{Role, semicolon, arrow, lets, role_of, Splitting, splits, Bracket, round, bracket_of, Splitter, no_splitter, splitter_of}
+use Rattle.dy_syntax.specs.Roles.{Role, semicolon, lets, role_of, Splitting, splits, Bracket, round, bracket_of, Splitter, no_splitter, splitter_of}
 use Rattle.dy_syntax.specs.Types.{TypeTree, Bound, VariableTree, ResultTree, is_arrow_role}
 
 -- the class and the bounds of a limited type

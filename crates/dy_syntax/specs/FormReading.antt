@@ -1,9 +1,9 @@
 -- The forms that fragments stand for, by functions that compute.
-use Rattle.std.specs.Prelude.{Bool, true, false, if◌then◌else◌, List, [], ◌∷◌, Option, Some, None, option_map, option_and_then}
+use Rattle.std.specs.Prelude.{Bool, true, false, List, [], ◌∷◌, Option, Some, None, option_map, option_and_then}
 use Rattle.dy_tree.specs.declared.token.Token.{Token}
 use Rattle.dy_tree.specs.Fragments.{SeenFragment, one, group, SeenFragments, row}
 use Rattle.dy_syntax.specs.Trees.{Tree, MaybeTree, Listed, parameters_of, body_of}
-use Rattle.dy_syntax.specs.Roles.{Role, named, symbol, defines, role_of, nothing, Bracket, round, statement, define_word, bracket_of}
+use Rattle.dy_syntax.specs.Roles.{Role, named, symbol, defines, role_of, nothing, Bracket, statement, define_word, bracket_of}
 use Rattle.dy_syntax.specs.Types.{TypeTree, VariableTree, TargetTree}
 use Rattle.dy_syntax.specs.Arguments.{is_comma, is_comma_fragment}
 use Rattle.dy_syntax.specs.Cutting.{NamedFound, Item, Piece, Pieces, is_semicolon, cut, each_other, with_others, Sides, first_cut, fragments_in, Front, headed}

@@ -3,8 +3,7 @@ use Rattle.std.specs.Prelude.{ℕ, List, [], ◌∷◌, ◌++◌, map, codes}
 use Rattle.dy_tree.specs.declared.token.TokenKind.TheVariants as kinds
 use Rattle.dy_tree.specs.declared.token.Token.{Token}
 use Rattle.dy_tree.specs.Fragments.{SeenFragment, one}
-use Rattle.dy_syntax.specs.Trees.{Tree}
-use Rattle.dy_syntax.specs.Types.{TypeTree, types_of}
+use Rattle.dy_syntax.specs.Types.{types_of}
 use Rattle.dy_syntax.specs.Marks.{made, in_round, statement_group, word_mark, comma_mark, semicolon_mark, equals_mark}
 use Rattle.dy_syntax.specs.TypeWriting.{written_variable, written_target, written_types}
 use Rattle.dy_syntax.specs.Writing.{written, written_initial, written_body, written_signature}

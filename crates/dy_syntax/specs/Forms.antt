@@ -14,8 +14,8 @@ use Rattle.dy_tree.specs.Fragments.{SeenFragment, one, group, SeenFragments, row
 use Rattle.dy_syntax.specs.Trees.{Tree, MaybeTree, no_tree, some_tree, Key, a_key, KeysTree, Listed, Parameters, parameters_of, Body, body_of, ItemTree}
 use Rattle.dy_syntax.specs.Roles.{named, symbol, comma, semicolon, defines, role_of, nothing, round, statement, define_word, bracket_of}
 use Rattle.dy_syntax.specs.Types.{is_equals, TypeTree, some_types, IsType, VariableTree, IsVariable, TargetTree, IsTarget, ResultTree, ResultsPart}
-use Rattle.dy_syntax.specs.Expressions.{Derives, expression, initial, brackets, signature}
-use Rattle.dy_syntax.specs.Definitions.{class_definition, method_definition, function_definition, generic_definition, constant_definition, variable_definition, domain_definition, sealed_word, define_word_of, is_definition_word, suit_class, suit_function, suit_method, suit_generic, suit_slot, is_slot_word, keyword_option, required_option, value_option, function_option, setter_option, option_word, is_setter}
+use Rattle.dy_syntax.specs.Productions.{Derives, expression, initial, brackets, signature}
+use Rattle.dy_syntax.specs.Definitions.{class_definition, method_definition, function_definition, generic_definition, constant_definition, variable_definition, domain_definition, sealed_word, define_word_of, suit_class, suit_function, suit_method, suit_generic, suit_slot, is_slot_word, keyword_option, required_option, value_option, function_option, setter_option, option_word, is_setter}
 
 -- names with commas between them
 pub data AreNames : List Token → List SeenFragment → Type 0 where

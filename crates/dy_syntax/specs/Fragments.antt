@@ -1,5 +1,5 @@
 -- What fragments stand for. What is inside of a group is read first.
-use Rattle.std.specs.Prelude.{List, [], ◌∷◌, Option, Some, None, map, option_map}
+use Rattle.std.specs.Prelude.{List, [], ◌∷◌, Option, None, map, option_map}
 use Rattle.dy_tree.specs.declared.token.Token.{Token}
 use Rattle.dy_tree.specs.Fragments.{SeenFragment, one, group, SeenFragments, no_fragment, fragment_and}
 use Rattle.dy_syntax.specs.ConstantTrees.{Constant, constants_of, tail_of}

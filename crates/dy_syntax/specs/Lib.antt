@@ -3,7 +3,7 @@ pub mod ConstantTrees
 pub mod Trees
 pub mod Roles
 pub mod Arguments
-pub mod Expressions
+pub mod Productions
 pub mod Types
 pub mod Cutting
 pub mod TypeReading
@@ -25,3 +25,7 @@ pub mod Definitions
 pub mod Forms
 pub mod FormReading
 pub mod FormWriting
+pub mod FormDepth
+pub mod Parsing
+pub mod SeenTypes
+pub mod SeenForms

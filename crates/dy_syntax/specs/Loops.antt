@@ -6,7 +6,7 @@ use Rattle.dy_syntax.specs.Types.{VariableTree, binds_plainly}
 use Rattle.dy_syntax.specs.Trees.{Tree, for_tree, ItemTree, body_of, Otherwise, no_otherwise, otherwise, ForClause, then_clause, in_clause, from_clause, for_clauses_of, MaybeLimit, no_limit, a_limit, MaybeTree, no_tree, some_tree, StopTree, stop_of}
 use Rattle.dy_syntax.specs.Roles.{steps, last_part, Splitter, then_word, from_word, by_word, finally_word, in_word}
 use Rattle.dy_syntax.specs.Arguments.{is_comma_fragment}
-use Rattle.dy_syntax.specs.Expressions.{is_stop_word, is_limit_word}
+use Rattle.dy_syntax.specs.Productions.{is_stop_word, is_limit_word}
 use Rattle.dy_syntax.specs.Cutting.{Ending, Item, Piece, Pieces, is_splitter, cut, ending, fragments_in, Front, word_of}
 use Rattle.dy_syntax.specs.TypeReading.{VariableFront, variable_front}
 use Rattle.dy_syntax.specs.Reading.{expression_items}

@@ -3,7 +3,7 @@
 use Rattle.std.specs.Prelude.{ℕ, suc, Bool, true, false, nat_lt, if◌then◌else◌, List, [], ◌∷◌, ◌++◌, Option, Some, None, option_map, option_and_then}
 use Rattle.dy_tree.specs.declared.token.Token.{Token}
 use Rattle.dy_tree.specs.declared.types.LiteralForm.TheVariants as literals
-use Rattle.dy_tree.specs.Fragments.{SeenFragment, one, group, SeenFragments, no_fragment, fragment_and}
+use Rattle.dy_tree.specs.Fragments.{SeenFragment, one, group}
 use Rattle.dy_syntax.specs.Operators.{Precedence, sum, below}
 use Rattle.dy_syntax.specs.Trees.{Tree, assignment, operation, unary, call, element, member, literal, name, Argument, keyword, value, arguments_of}
 use Rattle.dy_syntax.specs.Cutting.{Found, Item}

@@ -1,14 +1,14 @@
 -- Parameter lists, results and the bodies behind them, by functions that compute.
-use Rattle.std.specs.Prelude.{ℕ, Bool, true, false, List, [], ◌∷◌, codes, Option, Some, None, option_map, option_and_then}
+use Rattle.std.specs.Prelude.{Bool, true, false, List, [], ◌∷◌, codes, Option, Some, None, option_map, option_and_then}
 use Rattle.dy_tree.specs.declared.token.Token.{Token}
 use Rattle.dy_tree.specs.Fragments.{SeenFragment, one, group, SeenFragments, no_fragment}
-use Rattle.dy_syntax.specs.Types.{is_equals, is_identity, is_mark, Single, VariableTree, RequiredTree, required_variable, required_single, ResultTree, several_results, one_result, PartWord, part_word, next_word, rest_word, key_word, all_keys_word, no_part_word}
+use Rattle.dy_syntax.specs.Types.{is_identity, Single, VariableTree, RequiredTree, required_variable, required_single, ResultTree, several_results, one_result, PartWord, part_word, next_word, rest_word, key_word, all_keys_word, no_part_word}
 use Rattle.dy_syntax.specs.Trees.{Tree, MaybeTree, no_tree, some_tree, Key, a_key, KeysTree, Listed, ItemTree}
 use Rattle.dy_syntax.specs.Roles.{Role, named, symbol, role_of, nothing, Bracket, round, bracket_of}
 use Rattle.dy_syntax.specs.Arguments.{is_comma_fragment}
-use Rattle.dy_syntax.specs.Expressions.{list_of, keys_found}
-use Rattle.dy_syntax.specs.Cutting.{MethodFound, NamedFound, Ending, Found, Item, Piece, Pieces, is_semicolon, is_arrow, cut, ending, fragments_in, with_others, Front, headed}
-use Rattle.dy_syntax.specs.TypeReading.{single_in, VariableFront, variable_front, variable_items, marked, is_marked, name_items, named_token}
+use Rattle.dy_syntax.specs.Productions.{list_of}
+use Rattle.dy_syntax.specs.Cutting.{MethodFound, NamedFound, Ending, Found, Item, Piece, Pieces, is_semicolon, is_arrow, cut, ending, fragments_in, Front, headed}
+use Rattle.dy_syntax.specs.TypeReading.{single_in, VariableFront, variable_front, variable_items, marked, name_items}
 use Rattle.dy_syntax.specs.Reading.{expression_items}
 use Rattle.dy_syntax.specs.Bodies.{is_equals_at, body_items}
 

@@ -1,10 +1,10 @@
 -- The statements that items stand for, by functions that compute.
-use Rattle.std.specs.Prelude.{Bool, true, false, if◌then◌else◌, List, [], ◌∷◌, Option, Some, None, option_map, option_and_then}
+use Rattle.std.specs.Prelude.{true, false, List, [], ◌∷◌, Option, Some, None, option_map, option_and_then}
 use Rattle.dy_tree.specs.declared.token.Token.{Token}
 use Rattle.dy_tree.specs.Fragments.{SeenFragment, one, group}
 use Rattle.dy_syntax.specs.Operators.{Guard}
 use Rattle.dy_syntax.specs.Trees.{Tree, begin_tree, if_tree, guarded, case_tree, select_tree, maybe_of, arms_of, ItemTree, body_of, Alternative, alternative, alternatives_of, Otherwise, no_otherwise, otherwise, method_tree, parameters_of}
-use Rattle.dy_syntax.specs.Roles.{Splitting, nothing, branches, Splitter, else_word, elseif_word, no_splitter, splitter_of, Keyword, begin_word, if_word, guard_word, case_word, select_word, Bracket, round, bracket_of, block_word, for_word, method_word, define_word}
+use Rattle.dy_syntax.specs.Roles.{nothing, branches, Splitter, else_word, elseif_word, Keyword, begin_word, if_word, guard_word, case_word, select_word, Bracket, round, bracket_of, block_word, for_word, method_word, define_word}
 use Rattle.dy_syntax.specs.Cutting.{Head, Item, Piece, Pieces, is_splitter, cut, Front, headed, word_of, MethodFound}
 use Rattle.dy_syntax.specs.Bodies.{body_items}
 use Rattle.dy_syntax.specs.Choices.{Choices, arms_items}

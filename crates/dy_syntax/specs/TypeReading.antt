@@ -1,14 +1,13 @@
 -- The types and variables that items stand for, by functions that compute.
-use Rattle.std.specs.Prelude.{ℕ, Bool, true, false, ◌&&◌, if◌then◌else◌, List, [], ◌∷◌, codes, Option, Some, None, option_map, option_and_then}
+use Rattle.std.specs.Prelude.{ℕ, Bool, true, false, List, [], ◌∷◌, codes, Option, Some, None, option_map, option_and_then}
 use Rattle.dy_tree.specs.declared.token.Token.{Token}
-use Rattle.dy_tree.specs.declared.types.LiteralForm.{LiteralForm}
 use Rattle.dy_tree.specs.declared.types.IntegerForm.{IntegerForm}
 use Rattle.dy_tree.specs.Fragments.{SeenFragment, one, group, SeenFragments, no_fragment, row}
-use Rattle.dy_syntax.specs.Roles.{Role, integer, named, colons, minus, role_of, negative, Bracket, round, sharp_round, bracket_of, is_same}
+use Rattle.dy_syntax.specs.Roles.{Role, integer, named, minus, role_of, negative, Bracket, round, sharp_round, bracket_of, is_same}
 use Rattle.dy_syntax.specs.Constants.{token_literal}
 use Rattle.dy_syntax.specs.Arguments.{is_comma_fragment}
 use Rattle.dy_syntax.specs.Types.{is_mark, Single, literal_single, empty_single, name_single, Bound, is_bound, TypeTree, named_type, singleton_type, union_type, limited_type, types_of, TypeWord, singleton_word, union_word, limited_word, no_type_word, type_word, VariableTree, TargetTree, one_target, several, is_colons_role}
-use Rattle.dy_syntax.specs.Cutting.{Limits, Ending, Found, Item, Piece, Pieces, cut, each, each_other, fragments_in, ending}
+use Rattle.dy_syntax.specs.Cutting.{Limits, Ending, Found, Item, Pieces, cut, each, each_other, fragments_in, ending}
 
 abbrev pub single_token : Role → Token → Option Single
 single_token named token = Some (name_single token)

@@ -1,7 +1,6 @@
 -- The fragments that types and variables are written as.
 use Rattle.std.specs.Prelude.{List, [], ◌∷◌, ◌++◌, Option, Some, None}
 use Rattle.dy_tree.specs.declared.token.Token.{Token}
-use Rattle.dy_tree.specs.declared.types.IntegerForm.{IntegerForm}
 use Rattle.dy_tree.specs.Fragments.{SeenFragment, one}
 use Rattle.dy_syntax.specs.Marks.{in_round, written_integer, written_literal, comma_mark, list_group, colons_mark, rest_mark, next_mark, arrow_mark, identity_mark}
 use Rattle.dy_syntax.specs.Types.{Single, literal_single, empty_single, name_single, Bound, TypeTree, named_type, singleton_type, union_type, limited_type, TypeTrees, no_type, type_and, VariableTree, TargetTree, one_target, several, RequiredTree, required_variable, required_single, ResultTree, several_results, one_result}

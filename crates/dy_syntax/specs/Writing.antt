@@ -1,14 +1,12 @@
 -- The fragments that a tree is written as (own): brackets stand round every operand that is no leaf, round a symbol
 -- or a negative literal that is an operand, round an integer under a minus, and round a name, or a member with a
 -- name, that splits a statement.
-use Rattle.std.specs.Prelude.{ℕ, pos, Bool, true, false, ◌||◌, List, [], ◌∷◌, ◌++◌, codes, Option, Some, None}
-use Rattle.dy_tree.specs.declared.token.TokenKind.{TokenKind}
-use Rattle.dy_tree.specs.declared.token.TokenKind.TheVariants as kinds
+use Rattle.std.specs.Prelude.{Bool, true, false, ◌||◌, List, [], ◌∷◌, ◌++◌, codes, Option, Some, None}
 use Rattle.dy_tree.specs.declared.token.Token.{Token}
 use Rattle.dy_tree.specs.declared.types.LiteralForm.{LiteralForm}
 use Rattle.dy_tree.specs.declared.types.LiteralForm.TheVariants as literals
-use Rattle.dy_tree.specs.Fragments.{SeenFragment, one, group, pack}
-use Rattle.dy_syntax.specs.Marks.{made, mark, enclosed, in_round, in_square, written_integer, written_literal, assigns_mark, dot_mark, comma_mark, list_group, vector_group, semicolon_mark, word_mark, statement_group, equals_mark, handler_mark, arrow_mark, colons_mark, key_mark, all_keys_mark}
+use Rattle.dy_tree.specs.Fragments.{SeenFragment, one}
+use Rattle.dy_syntax.specs.Marks.{in_round, in_square, written_literal, assigns_mark, dot_mark, comma_mark, list_group, vector_group, semicolon_mark, word_mark, statement_group, equals_mark, handler_mark, arrow_mark, colons_mark, key_mark, all_keys_mark}
 use Rattle.dy_syntax.specs.TypeWriting.{written_type, written_target, written_variable, written_results, required_joined, next_joined, rest_joined}
 use Rattle.dy_syntax.specs.ConstantTrees.{Constant, literal_item, list_item, vector_item, Constants, no_constant, constant_and, Tail, no_tail, tail}
 use Rattle.dy_syntax.specs.Trees.{Tree, assignment, operation, unary, call, element, member, literal, name, Arguments, no_argument, argument_and, Argument, keyword, value, list, vector, begin_tree, if_tree, guarded, Body, no_item, item_and, ItemTree, let_item, handler_item, expression_item, Alternatives, no_alternative, alternative_and, Alternative, alternative, Otherwise, no_otherwise, otherwise, case_tree, select_tree, MaybeTree, no_tree, some_tree, Arms, no_arm, arm_and, Arm, arm, Tests, no_test, test_and, block_tree, for_tree, BlockClauses, no_clause, clause_and, BlockClause, afterwards_clause, cleanup_clause, exception_clause, ForClauses, no_for_clause, for_clause_and, ForClause, then_clause, in_clause, from_clause, MaybeLimit, no_limit, a_limit, MaybeStop, no_stop, a_stop, method_tree, Parameters, parameters, MaybeKeys, no_keys, some_keys, Keys, no_key, key_and, Key, a_key, LocalMethods, no_method, method_and, LocalMethod, local_method, local_item}

@@ -1,11 +1,11 @@
 //! Laws of the grammar.
 
-ghost use Rattle.std.specs.Prelude.{◌≡◌, Bool, true, List, Option, Some};
+ghost use Rattle.std.specs.Prelude.{◌≡◌, ◌<◌, ◌≤◌, Bool, true, List, Option, Some};
 ghost use Rattle.dy_tree.specs.Fragments.{SeenFragment, SeenFragments, row};
 ghost use Rattle.dy_syntax.specs.ConstantTrees.{Constant};
 ghost use Rattle.dy_syntax.specs.Trees.{Tree, Argument, ItemTree, body_of};
 ghost use Rattle.dy_syntax.specs.Roles.{Splitting, nothing};
-ghost use Rattle.dy_syntax.specs.Expressions.{Derives, expression, arguments, a_body};
+ghost use Rattle.dy_syntax.specs.Productions.{Derives, expression, arguments, a_body};
 ghost use Rattle.dy_syntax.specs.Fragments.{expression_of, passed_of, body_of_fragments, items_of};
 ghost use Rattle.dy_syntax.specs.Arguments.{is_single};
 ghost use Rattle.dy_syntax.specs.Writing.{written, written_body};
@@ -17,6 +17,9 @@ ghost use Rattle.dy_syntax.specs.TypeWriting.{written_type, written_target};
 ghost use Rattle.dy_syntax.specs.Forms.{FormTree, IsForm};
 ghost use Rattle.dy_syntax.specs.FormReading.{form_of};
 ghost use Rattle.dy_syntax.specs.FormWriting.{written_form};
+ghost use Rattle.dy_syntax.specs.Depth.{depth_limit};
+ghost use Rattle.dy_syntax.specs.FormDepth.{form_depth};
+ghost use Rattle.dy_syntax.specs.Parsing.{parsed, accepted, too_deep, no_form};
 
 /// What holds of the expressions that fragments stand for.
 pub fn expression_laws()
@@ -78,6 +81,21 @@ pub fn form_laws()
     ensures writes { (fragments : List SeenFragment) (form : FormTree) → IsForm form fragments → IsForm form (written_form form) }
     // What is written is read again.
     ensures again { (fragments : List SeenFragment) (form : FormTree) → form_of fragments ≡ Some form → form_of (written_form form) ≡ Some form }
+{}
+
+/// What holds of what is told of the fragments of a form.
+pub fn parsing_laws()
+    // What is accepted is a form within the limit, and each form within the limit is accepted.
+    ensures accepts { (fragments : List SeenFragment) (form : FormTree) → parsed fragments ≡ accepted form → IsForm form fragments × (form_depth form ≤ depth_limit) }
+    ensures accepts_all { (fragments : List SeenFragment) (form : FormTree) → IsForm form fragments → form_depth form ≤ depth_limit → parsed fragments ≡ accepted form }
+    // Too deep is what stands for a form that is deeper than the limit.
+    ensures deep { (fragments : List SeenFragment) → parsed fragments ≡ too_deep → (form : FormTree) × IsForm form fragments × (depth_limit < form_depth form) }
+    ensures all_deep { (fragments : List SeenFragment) (form : FormTree) → IsForm form fragments → depth_limit < form_depth form → parsed fragments ≡ too_deep }
+    // No form is told exactly where there is none.
+    ensures none { (fragments : List SeenFragment) → parsed fragments ≡ no_form → (form : FormTree) → IsForm form fragments → ⊥ }
+    ensures all_none { (fragments : List SeenFragment) → ((form : FormTree) → IsForm form fragments → ⊥) → parsed fragments ≡ no_form }
+    // What a form within the limit is written as is accepted again.
+    ensures again { (fragments : List SeenFragment) (form : FormTree) → IsForm form fragments → form_depth form ≤ depth_limit → parsed (written_form form) ≡ accepted form }
 {}
 
 /// What holds of lists and vectors of literals.

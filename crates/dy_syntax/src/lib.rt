@@ -3,4 +3,4 @@
 
 mod laws;
 
-pub use laws::{body_laws, constant_laws, expression_laws, form_laws, type_laws};
+pub use laws::{body_laws, constant_laws, expression_laws, form_laws, parsing_laws, type_laws};

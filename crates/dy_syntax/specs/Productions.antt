@@ -1,4 +1,4 @@
--- Which expressions fragments stand for (DRM, appendix A): one case for each production.
+-- Which expressions, statements and bodies fragments stand for (DRM, appendix A): one case for each production.
 --     expression = level5 [ ":=" expression ]
 --     level5     = level4 { ("&" | "|") level4 }
 --     level4     = level3 { ("=" | "==" | "<" | ">" | "<=" | ">=" | "~=" | "~==") level3 }
@@ -14,11 +14,10 @@
 --                | "if" "(" expression ")" body { "elseif" "(" expression ")" body } [ "else" body ] "end"
 --                | "case" arms "end" | "select" "(" expression [ "by" expression ] ")" arms "end"
 --                | "block" "(" [ NAME ] ")" body { ("afterwards" | "cleanup" | "exception" "(" [ NAME "::" ] type ")") body } "end"
---                | "for" "(" [ clauses ] ")" body [ "finally" body ] "end"
+--                | "for" "(" [ clauses ] ")" body [ "finally" body ] "end" | "method" signature "end"
 --     clauses    = clause [ "," clauses ] | (while: | until:) expression
 --     clause     = var "=" expression "then" expression | var "in" expression
 --                | var "from" expression [ ("to" | "above" | "below") expression ] [ "by" expression ]
---                | "method" signature "end"
 --     signature  = "(" [ listed ] ")" [ "=>" results ] [ ";" ] body
 --     listed     = required [ "," listed ] | "#next" NAME [ "," listed ] | "#rest" NAME [ "," listed ]
 --                | "#key" [ key { "," key } ] [ "," "#all-keys" ]      (each part once at most, and in this order)
@@ -39,8 +38,8 @@ use Rattle.dy_syntax.specs.Operators.{Precedence, below, Guard}
 use Rattle.dy_syntax.specs.ConstantTrees.{Constant, constants_of, tail_of}
 use Rattle.dy_syntax.specs.Trees.{Tree, assignment, operation, unary, call, element, member, literal, name, Argument, keyword, value, arguments_of, list, vector, begin_tree, if_tree, guarded, ItemTree, let_item, handler_item, expression_item, body_of, Alternative, alternative, alternatives_of, Otherwise, no_otherwise, otherwise, case_tree, select_tree, maybe_of, Arm, arm, arms_of, tests_of, block_tree, for_tree, BlockClause, afterwards_clause, cleanup_clause, exception_clause, block_clauses_of, ForClause, then_clause, in_clause, from_clause, for_clauses_of, MaybeLimit, no_limit, a_limit, MaybeTree, no_tree, some_tree, StopTree, stop_of, method_tree, Key, a_key, KeysTree, Listed, parameters_of, LocalMethod, local_method, methods_of, local_item}
 use Rattle.dy_syntax.specs.Constants.{IsConstant, in_list, in_vector}
-use Rattle.dy_syntax.specs.Roles.{Role, integer, character, string, boolean, symbol, named, minus, tilde, assigns, dot, comma, semicolon, lets, handlers, role_of, precedence_of, Splitting, nothing, splits, Bracket, round, square, hidden, bracket_of, positive, negative, sharp_round, sharp_square, statement, begin_word, if_word, guard_word, case_word, select_word, branches, else_word, elseif_word, tests, by_word, splitter_of, arrow, remains, block_word, for_word, endings, last_part, steps, Splitter, afterwards_word, cleanup_word, exception_word, finally_word, then_word, from_word, to_word, above_word, below_word, colons, is_word, is_same, in_word, method_word, locals}
-use Rattle.dy_syntax.specs.Types.{is_equals, TypeTree, a_type, IsType, binds_plainly, TargetTree, IsTarget, VariableTree, IsVariable, is_mark, RequiredTree, IsRequired, ResultTree, apart, ResultsPart, EndPart, part_word, next_word, rest_word, key_word, all_keys_word}
+use Rattle.dy_syntax.specs.Roles.{Role, integer, character, string, boolean, symbol, named, minus, tilde, assigns, dot, comma, semicolon, lets, handlers, role_of, precedence_of, Splitting, nothing, splits, Bracket, round, square, hidden, bracket_of, positive, negative, sharp_round, sharp_square, statement, begin_word, if_word, guard_word, case_word, select_word, branches, else_word, elseif_word, tests, by_word, splitter_of, arrow, remains, block_word, for_word, endings, last_part, steps, Splitter, afterwards_word, cleanup_word, exception_word, finally_word, then_word, from_word, to_word, above_word, below_word, colons, is_same, in_word, method_word, locals}
+use Rattle.dy_syntax.specs.Types.{is_equals, TypeTree, a_type, IsType, binds_plainly, TargetTree, IsTarget, VariableTree, IsVariable, RequiredTree, IsRequired, ResultTree, apart, ResultsPart, EndPart, part_word, next_word, rest_word, key_word, all_keys_word}
 use Rattle.dy_syntax.specs.Arguments.{passes_two}
 use Rattle.std.specs.List.{list_any}
 
