@@ -3,8 +3,9 @@
 
 usage: growth.py [COMMAND ..]
 
-Builds libraries of 64 KiB, 256 KiB, 1 MiB and 4 MiB of format-out lines, made in a temporary
-folder, by `COMMAND .. build LID`. With no COMMAND it is the script banthruy beside this folder.
+Builds libraries of 64 KiB, 256 KiB, 1 MiB and 4 MiB, made in a temporary folder, by
+`COMMAND .. build LID`: of lines that print sums, and of methods and lines that call them. With no
+COMMAND it is the script banthruy beside this folder.
 
 The status is 1 where a library is not built or prints something else, where time or memory grows
 by more than 1.3 for each doubling, beyond the doubling itself, or where the largest library takes
@@ -12,6 +13,7 @@ more than 1 GiB.
 """
 
 import filecmp
+import itertools
 import math
 import os
 import subprocess
@@ -42,29 +44,48 @@ class Failed(Exception):
     """A run that is no measurement, or a bound that is not kept."""
 
 
-def write_source(folder, size):
+def sums():
+    """Lines that print sums, each with what it prints."""
+    for number in itertools.count():
+        a, b, c, d = number % 1000, number % 97, number % 31, number % 7
+        yield f'format-out("%d\\n", ({a} + {b}) * {c} - {d});\n', f"{(a + b) * c - d}\n"
+
+
+def methods():
+    """Lines of which each defines a method, and prints what an earlier one gives."""
+    for number in itertools.count():
+        called, a, b = number // 2, number % 97, number % 1000
+        printed = b * 2 + called % 97
+        yield (
+            f'define method f{number} (n) n + n + {a} end; format-out("%d\\n", f{called}({b}));\n',
+            f"{printed}\n",
+        )
+
+
+KINDS = {"lines that print sums": sums, "methods and calls of them": methods}
+
+
+def write_source(folder, size, kind):
     """Writes a source file of this size, and beside it what the program prints. Lines go out one by
     one: a child's peak counts from what this process holds when it starts the child."""
     left = size - len(HEADER)
     with open_text(folder, "growth.dylan") as file, open_text(folder, "printed") as printed:
         file.write(HEADER)
-        for number in range(size):
-            a, b, c, d = number % 1000, number % 97, number % 31, number % 7
-            line = f'format-out("%d\\n", ({a} + {b}) * {c} - {d});\n'
+        for line, line_printed in KINDS[kind]():
             if len(line) > left:
                 break
             file.write(line)
-            printed.write(f"{(a + b) * c - d}\n")
+            printed.write(line_printed)
             left -= len(line)
         file.write("\n" * left)
 
 
-def write_library(folder, size):
+def write_library(folder, size, kind):
     with open_text(folder, "growth.lid") as file:
         file.write(LID)
     with open_text(folder, "library.dylan") as file:
         file.write(LIBRARY)
-    write_source(folder, size)
+    write_source(folder, size, kind)
 
 
 def open_text(folder, name):
@@ -110,9 +131,9 @@ def check(folder, size, status):
         raise Failed(f"a library of {size} bytes: it printed something else than it was to print")
 
 
-def measure(command, folder, size, runs):
-    """The best of several builds of a library of this size."""
-    write_library(folder, size)
+def measure(command, folder, size, kind, runs):
+    """The best of several builds of a library of this size and kind."""
+    write_library(folder, size, kind)
     best = None
     for _ in range(runs):
         one, status = run(command, folder)
@@ -130,18 +151,18 @@ def named(size):
     return f"{size // MIB} MiB" if size >= MIB else f"{size // KIB} KiB"
 
 
-def table(command, folder):
+def table(command, folder, kind):
     """Prints a row for each size, and gives the bounds that are not kept."""
     # A library of one line shows what every run takes. The first run is not counted: it may build the program.
-    least = len(HEADER) + 40
-    measure(command, folder, least, 1)
-    base = measure(command, folder, least, RUNS)
-    print(f"one line: {base.elapsed:.3f} s, {base.processor:.3f} s of the processor, peak {base.peak / MIB:.1f} MiB")
+    least = len(HEADER) + 80
+    measure(command, folder, least, kind, 1)
+    base = measure(command, folder, least, kind, RUNS)
+    print(f"{kind}; one line: {base.elapsed:.3f} s, {base.processor:.3f} s of the processor, peak {base.peak / MIB:.1f} MiB")
     print("| size | elapsed | processor | per byte | growth | peak memory | per byte | growth |")
     print("|---|---|---|---|---|---|---|---|")
     before, faults = None, []
     for size in SIZES:
-        it = measure(command, folder, size, RUNS)
+        it = measure(command, folder, size, kind, RUNS)
         taken = max(it.processor - base.processor, SHORTEST)
         row = [named(size), f"{it.elapsed:.3f} s", f"{it.processor:.3f} s", f"{taken / size * 1e9:.0f} ns"]
         memory = [f"{it.peak / MIB:.1f} MiB", f"{it.peak / size:.0f}"]
@@ -153,11 +174,11 @@ def table(command, folder):
             row += [f"{factors[0]:.2f}", *memory, f"{factors[1]:.2f}"]
             for what, factor in zip(["time", "memory"], factors):
                 if factor > MOST_GROWTH:
-                    faults.append(f"{what} up to {named(size)} grows by {factor:.2f} a doubling, beyond the doubling")
+                    faults.append(f"{kind}: {what} up to {named(size)} grows by {factor:.2f} a doubling, beyond the doubling")
         print(f"| {' | '.join(row)} |", flush=True)
         before = (size, taken, it.peak)
     if it.peak > MOST_MEMORY:
-        faults.append(f"the peak at {named(size)} is {it.peak / MIB:.0f} MiB")
+        faults.append(f"{kind}: the peak at {named(size)} is {it.peak / MIB:.0f} MiB")
     return faults
 
 
@@ -168,7 +189,7 @@ def main():
         command[0] = os.path.abspath(command[0])
     try:
         with tempfile.TemporaryDirectory() as folder:
-            faults = table(command, folder)
+            faults = [fault for kind in KINDS for fault in table(command, folder, kind)]
     except (Failed, OSError) as error:
         faults = [str(error)]
     for fault in faults:
