@@ -7,12 +7,12 @@ use Rattle.std.specs.declared.alloc.Global.{Global}
 use Rattle.std.proofs.Math.Seq.{set-append_seam}
 use Rattle.std.proofs.lemmas.List.{append-nil, take_more, length-map}
 use Rattle.dy_base.specs.declared.ids.GenericId.{GenericId}
-use Rattle.dy_term.specs.declared.term.Term.{Term, the_lemmas}
-use Rattle.dy_term.specs.declared.term.Term.TheVariants.{Cond}
-use Rattle.dy_term.specs.Core.{Core, cond as choice_core, seen, seen_pair, choice_of, CoreGeneric, CoreMethod, CoreLibrary, seen_generic, seen_library}
-use Rattle.dy_term.specs.declared.program.GenericRow.{GenericRow}
-use Rattle.dy_term.specs.declared.program.LibraryRow.{LibraryRow}
-use Rattle.dy_term.proofs.Rows.{seen_pairs}
+use Rattle.dy_runnable.specs.declared.term.Term.{Term, the_lemmas}
+use Rattle.dy_runnable.specs.declared.term.Term.TheVariants.{Cond}
+use Rattle.dy_runnable.specs.Core.{Core, cond as choice_core, seen, seen_pair, choice_of, CoreGeneric, CoreMethod, CoreLibrary, seen_generic, seen_library}
+use Rattle.dy_runnable.specs.declared.program.GenericRow.{GenericRow}
+use Rattle.dy_runnable.specs.declared.program.LibraryRow.{LibraryRow}
+use Rattle.dy_runnable.proofs.Rows.{seen_pairs}
 use Rattle.dy_build.specs.declared.run.code.Entry.{Entry}
 use Rattle.dy_build.specs.declared.run.code.Instr.{Instr}
 use Rattle.dy_build.specs.declared.run.code.Instr.TheVariants.{Jump, JumpFalse}

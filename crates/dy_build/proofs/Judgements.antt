@@ -2,7 +2,7 @@
 use Rattle.std.proofs.Common.{◌≡◌, ℕ, List, Result, Ok, Err, refl, sym, ◌∙◌, inl, inr}
 use Rattle.std.specs.Prelude.{IfErr}
 use Rattle.dy_base.specs.declared.kind.Kind.TheVariants.{NoFile, Syntax, Unbound}
-use Rattle.dy_term.specs.declared.program.Program.{Program}
+use Rattle.dy_runnable.specs.declared.program.Program.{Program}
 use Rattle.dy_build.specs.declared.source.Source.{Source as Read}
 use Rattle.dy_build.specs.declared.source.Source.TheVariants as read
 use Rattle.dy_build.specs.declared.source.Halt.{Halt}

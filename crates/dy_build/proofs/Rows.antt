@@ -5,10 +5,10 @@ use Rattle.std.specs.declared.boxed.Box.{Box}
 use Rattle.std.specs.declared.alloc.Global.{Global}
 use Rattle.std.proofs.lemmas.List.{length-map}
 use Rattle.dy_base.specs.declared.ids.GenericId.{GenericId}
-use Rattle.dy_term.specs.declared.term.Term.{Term, the_lemmas}
-use Rattle.dy_term.specs.declared.term.Term.TheVariants.{Call, Site, Cond}
-use Rattle.dy_term.specs.Core.{Core, call, site, seen, seen_pair, cores_of, choice_of}
-use Rattle.dy_term.proofs.Rows.{seen_items}
+use Rattle.dy_runnable.specs.declared.term.Term.{Term, the_lemmas}
+use Rattle.dy_runnable.specs.declared.term.Term.TheVariants.{Call, Site, Cond}
+use Rattle.dy_runnable.specs.Core.{Core, call, site, seen, seen_pair, cores_of, choice_of}
+use Rattle.dy_runnable.proofs.Rows.{seen_items}
 use Rattle.dy_build.specs.declared.run.code.Instr.{Instr}
 use Rattle.dy_build.specs.declared.run.code.Instr.TheVariants.{Push, CallValue, Search}
 use Rattle.dy_build.specs.Code.{term_code, arguments_code, choice_code, count_of}

@@ -2,7 +2,7 @@
 use Rattle.std.proofs.Common.{◌≡◌, ℕ, zero, suc, ◌+◌, Bool, true, false, cond, List, [], ◌∷◌, ◌++◌, map, length, Option, Some, None, refl, sym, ap, ◌∙◌, subst, arith}
 use Rattle.std.specs.Prelude.{slice_get, option_map, option_and_then, ◌==◌}
 use Rattle.dy_base.specs.declared.ids.GenericId.{GenericId}
-use Rattle.dy_term.specs.Core.{CoreGeneric, CoreMethod, CoreLibrary}
+use Rattle.dy_runnable.specs.Core.{CoreGeneric, CoreMethod, CoreLibrary}
 use Rattle.dy_build.specs.declared.run.builtin.Operation.{Operation}
 use Rattle.dy_build.specs.declared.run.code.Entry.{Entry}
 use Rattle.dy_build.specs.declared.run.value.Value.{Value}

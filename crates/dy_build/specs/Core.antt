@@ -6,8 +6,8 @@ use Rattle.dy_base.specs.Tables.{NameMap}
 use Rattle.dy_base.specs.declared.ids.GenericId.{GenericId}
 use Rattle.dy_base.specs.declared.ids.BindingId.{BindingId}
 use Rattle.dy_base.specs.declared.ids.What.TheVariants.{Function}
-use Rattle.dy_term.specs.declared.literal.Literal.TheVariants.{Int, Str}
-use Rattle.dy_term.specs.Core.{Core, literal, local, global, call, site, cond, none, more, otherwise, branch, CoreGeneric, CoreMethod, CoreLibrary}
+use Rattle.dy_runnable.specs.declared.literal.Literal.TheVariants.{Int, Str}
+use Rattle.dy_runnable.specs.Core.{Core, literal, local, global, call, site, cond, none, more, otherwise, branch, CoreGeneric, CoreMethod, CoreLibrary}
 use Rattle.dy_build.specs.declared.text.form.Operator.{Operator}
 use Rattle.dy_build.specs.declared.text.form.Operator.TheVariants.{Add, Subtract, Multiply}
 use Rattle.dy_build.specs.declared.text.form.Comparison.{Comparison}

@@ -2,8 +2,8 @@
 use Rattle.std.specs.Prelude.{◌≡◌, ◌⊎◌, ℕ, Result, Ok, Err}
 use Rattle.dy_base.specs.declared.kind.Kind.TheVariants.{NoFile, Syntax, Unbound}
 use Rattle.dy_io.specs.Causes.{Rose}
-use Rattle.dy_term.specs.declared.program.Program.{Program}
-use Rattle.dy_term.specs.Core.{seen_program}
+use Rattle.dy_runnable.specs.declared.program.Program.{Program}
+use Rattle.dy_runnable.specs.Core.{seen_program}
 use Rattle.dy_build.specs.declared.source.Source.{Source as Read}
 use Rattle.dy_build.specs.declared.source.Source.TheVariants as read
 use Rattle.dy_build.specs.declared.source.Halt.{Halt}

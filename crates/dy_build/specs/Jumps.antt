@@ -1,6 +1,6 @@
 -- Code whose jumps to its end are written last (own).
 use Rattle.std.specs.Prelude.{ℕ, ◌+◌, ◌-◌, List, [], ◌∷◌, ◌++◌, length, slice_set}
-use Rattle.dy_term.specs.Core.{Core}
+use Rattle.dy_runnable.specs.Core.{Core}
 use Rattle.dy_build.specs.declared.run.code.Instr.{Instr}
 use Rattle.dy_build.specs.declared.run.code.Instr.TheVariants.{Jump, JumpFalse}
 use Rattle.dy_build.specs.Code.{term_code}

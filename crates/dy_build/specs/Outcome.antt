@@ -3,7 +3,7 @@ use Rattle.std.specs.Prelude.{ℕ, nat_le, List, [], length, Option, Some, None,
 use Rattle.std.specs.List.{concat}
 use Rattle.std.specs.FinMap as map
 use Rattle.dy_io.specs.Files.{FileMap}
-use Rattle.dy_term.specs.Core.{CoreLibrary}
+use Rattle.dy_runnable.specs.Core.{CoreLibrary}
 use Rattle.dy_build.specs.declared.refused.Refused.{Refused}
 use Rattle.dy_build.specs.Forms.{FormTree}
 use Rattle.dy_build.specs.Layout.{file_limit, with_line_feeds, Lid, lid_of, is_library_file, body_of, source_name}

@@ -3,7 +3,7 @@
 ghost use Rattle.std.specs.Prelude.{◌≡◌, ◌≢◌, ◌≤◌, ◌⊎◌, ◌↔◌, ◌++◌, ℕ, List, length, Some, None, map, string_bytes};
 ghost use Rattle.dy_io.specs.Causes.{Rose};
 ghost use Rattle.dy_io.specs.Files.{FileMap};
-ghost use Rattle.dy_term.specs.Core.{seen_program};
+ghost use Rattle.dy_runnable.specs.Core.{seen_program};
 ghost use Rattle.dy_build.specs.Meaning.{program_meaning};
 ghost use Rattle.dy_build.specs.Machine.{Final};
 ghost use Rattle.dy_build.specs.Endings.{EndsAs};
@@ -27,7 +27,7 @@ use crate::run::lower::lower;
 use crate::source::{Halt, read_program};
 use crate::words::{BuildCommand, build_words, usage};
 use dy_io::{Files, Sink, WriteFail};
-use dy_term::Program;
+use dy_runnable::Program;
 use std::alloc::Global;
 
 /// Sends the last line of a command, and answers the status: the given one, or that of the failure.

@@ -20,7 +20,7 @@ use crate::text::token::Spot;
 use crate::text::translate::program_of;
 use dy_base::Text;
 use dy_io::{Files, Found, ReadFail};
-use dy_term::Program;
+use dy_runnable::Program;
 use std::alloc::{AllocError, Global};
 
 /// A file has at most so many bytes.

@@ -1,1 +1,3 @@
-pub mod Core
+pub mod Drafts
+pub mod Literals
+pub mod Types

@@ -1,12 +1,25 @@
-//! The core language: literals, terms, and the rows of a program.
+//! The core language: literals, types, terms, the rows of a library, and drafts of them.
 #![tactic(auto)]
 
+mod draft;
 mod literal;
-mod program;
+mod rows;
 mod term;
+mod terms;
+mod types;
 
-pub use literal::Literal;
-pub use program::{
-    DyType, GenericRow, Lambda, LibraryRow, Member, MethodCode, MethodRow, Params, Program, TopTerm,
+pub use draft::{
+    Draft, DraftArm, DraftBlock, DraftBlockClause, DraftClass, DraftDomain, DraftFor,
+    DraftForClause, DraftGeneric, DraftInit, DraftItem, DraftKey, DraftLambda, DraftMethod,
+    DraftParams, DraftResults, DraftSlot, DraftTerm, DraftTop, DraftType, DraftVariable, Local,
 };
-pub use term::Term;
+pub use literal::Literal;
+pub use rows::{
+    ClassRow, DomainRow, GenericRow, Init, LibraryRow, MethodCode, MethodRow, Program, Row,
+    SlotKind, SlotRow, TopTerm, VariableRow,
+};
+pub use term::{BlockRow, ForClause, ForRow, Item, Lambda, Limit, Term};
+pub use terms::{
+    and_draft, body_draft, call_draft, cond_draft, loop_draft, no_place_draft, or_draft, set_draft,
+};
+pub use types::{DyType, Member, Params, Results};

@@ -57,6 +57,7 @@ pub enum Expression {
     /// `object[index]`
     Element {
         object: Box<Expression>,
+        opener: Token,
         index: Box<Expression>,
     },
     /// `object.name`

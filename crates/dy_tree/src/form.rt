@@ -40,6 +40,7 @@ pub enum Form {
     Method {
         define: Token,
         adjectives: Vec<Token>,
+        word: Token,
         name: Token,
         parameters: Parameters,
         body: Vec<Item>,

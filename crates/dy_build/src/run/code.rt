@@ -1,7 +1,7 @@
 //! Flat code.
 
 use dy_base::{BindingId, GenericId};
-use dy_term::Literal;
+use dy_runnable::Literal;
 
 /// An instruction of the machine, which has operands and a register of values.
 #[derive(Debug, Drop)]

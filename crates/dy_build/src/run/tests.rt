@@ -5,7 +5,7 @@ use crate::run::execute::{RunEnd, run};
 use crate::run::lower::lower;
 use crate::run::tests::terms::{again, choice, factorial, int, prints, same};
 use dy_io::MemSink;
-use dy_term::{Program, Term};
+use dy_runnable::{Program, Term};
 use std::alloc::{AllocError, Global};
 
 /// `if (n == 0) 7 else f(n - 1) end`

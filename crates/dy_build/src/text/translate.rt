@@ -1,13 +1,13 @@
 //! From forms to core terms.
 
 ghost use Rattle.std.specs.Prelude.{◌≡◌, map, length, IfOk, []};
-ghost use Rattle.dy_term.specs.Core.{seen as seen_term, seen_generic, seen_method, seen_library, seen_program};
+ghost use Rattle.dy_runnable.specs.Core.{seen as seen_term, seen_generic, seen_method, seen_library, seen_program};
 ghost use Rattle.dy_build.specs.Forms.{seen, seen_form};
 ghost use Rattle.dy_build.specs.Core.{generic_id, generic_of, function_of, method_generic, comparison_core, site_of, call_of, choice_of, core_of, print_core, generic_core, method_core, library_row, main_row, program_with};
 
 use crate::text::form::{Comparison, Expression, Form, Operator};
 use dy_base::{BindingId, ClassId, GenericId, NameTable, Ref, Text, What, fold};
-use dy_term::{
+use dy_runnable::{
     DyType, GenericRow, Lambda, LibraryRow, Literal, Member, MethodCode, MethodRow, Params,
     Program, Term, TopTerm,
 };

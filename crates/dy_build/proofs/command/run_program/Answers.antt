@@ -1,5 +1,5 @@
 use Rattle.std.proofs.Common.{◌≡◌, sym, ap, ◌∙◌, subst}
-use Rattle.dy_term.specs.Core.{seen_program}
+use Rattle.dy_runnable.specs.Core.{seen_program}
 use Rattle.dy_build.specs.Meaning.{program_meaning}
 use Rattle.dy_build.specs.Outcome.{Report, run_report}
 use Rattle.dy_build.specs.Machine.{run_program}

@@ -10,7 +10,7 @@ use crate::run::tests::terms::{
 };
 use dy_base::What;
 use dy_io::MemSink;
-use dy_term::{Program, Term, TopTerm};
+use dy_runnable::{Program, Term, TopTerm};
 use std::alloc::{AllocError, Global};
 use std::process::Abort;
 

@@ -1,7 +1,7 @@
 //! Terms and programs for tests.
 
 use dy_base::{BindingId, ClassId, GenericId, Ref, Text, What, fold};
-use dy_term::{
+use dy_runnable::{
     DyType, GenericRow, Lambda, LibraryRow, Literal, Member, MethodCode, MethodRow, Params,
     Program, Term, TopTerm,
 };

@@ -1,5 +1,5 @@
 use Rattle.std.proofs.Common.{◌≡◌, take, map, length}
-use Rattle.dy_term.specs.Core.{seen_generic}
+use Rattle.dy_runnable.specs.Core.{seen_generic}
 use Rattle.dy_build.specs.Code.{entries_of}
 use Rattle.dy_build.proofs.run.lower.entries_of.Given as goal
 

@@ -1,6 +1,6 @@
 use Rattle.std.proofs.Common.{◌≡◌, take, map}
 use Rattle.std.specs.Prelude.{flat_map}
-use Rattle.dy_term.specs.Core.{seen_library}
+use Rattle.dy_runnable.specs.Core.{seen_library}
 use Rattle.dy_build.specs.Code.{ids_of}
 use Rattle.dy_build.proofs.run.lower.ids_of.Given as goal
 

@@ -1,5 +1,5 @@
 use Rattle.std.proofs.Common.{sym, ◌∙◌, subst}
-use Rattle.dy_term.specs.Core.{seen_program}
+use Rattle.dy_runnable.specs.Core.{seen_program}
 use Rattle.dy_build.specs.Code.{Behaves, IsValid}
 use Rattle.dy_build.proofs.Emits.{code_is}
 use Rattle.dy_build.proofs.Ends.{behaves, program_valid}

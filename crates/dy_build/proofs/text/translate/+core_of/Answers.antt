@@ -1,6 +1,6 @@
 use Rattle.std.proofs.Common.{◌≡◌, List, map, sym, ap, ◌∙◌}
-use Rattle.dy_term.specs.declared.term.Term.{Term}
-use Rattle.dy_term.specs.Core.{site, more, none, cores_of, seen as seen_term}
+use Rattle.dy_runnable.specs.declared.term.Term.{Term}
+use Rattle.dy_runnable.specs.Core.{site, more, none, cores_of, seen as seen_term}
 use Rattle.dy_build.specs.declared.text.form.Expression.{Expression}
 use Rattle.dy_build.specs.Forms.{seen}
 use Rattle.dy_build.specs.Core.{method_generic, core_of}

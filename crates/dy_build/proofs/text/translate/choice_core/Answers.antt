@@ -1,6 +1,6 @@
 use Rattle.std.proofs.Common.{List, ◌∷◌, [], map, ap, ◌∙◌}
-use Rattle.dy_term.specs.declared.term.Term.{Term}
-use Rattle.dy_term.specs.Core.{cond, choice_of, seen_pair, seen as seen_term}
+use Rattle.dy_runnable.specs.declared.term.Term.{Term}
+use Rattle.dy_runnable.specs.Core.{cond, choice_of, seen_pair, seen as seen_term}
 use Rattle.dy_build.proofs.Emits.{seen_cond}
 use Rattle.dy_build.proofs.text.translate.choice_core.Goals as goal
 

@@ -1,6 +1,6 @@
 use Rattle.std.proofs.Common.{List, map, ap, ◌∙◌}
-use Rattle.dy_term.specs.declared.term.Term.{Term}
-use Rattle.dy_term.specs.Core.{site, cores_of, seen as seen_term}
+use Rattle.dy_runnable.specs.declared.term.Term.{Term}
+use Rattle.dy_runnable.specs.Core.{site, cores_of, seen as seen_term}
 use Rattle.dy_build.proofs.Rows.{seen_site}
 use Rattle.dy_build.proofs.text.translate.generic_call.Goals as goal
 

@@ -1,7 +1,7 @@
 use Rattle.std.proofs.Common.{◌≡◌, ◌<◌, map, flat_map, take, length, [], ◌∷◌, ◌++◌, sym, ap, ◌∙◌, List, ℕ, arith}
 use Rattle.std.proofs.lemmas.List.{map-append, append-nil, take_all}
-use Rattle.dy_term.specs.Core.{CoreLibrary, seen_generic, seen_method, seen_top}
-use Rattle.dy_term.specs.declared.program.LibraryRow.{LibraryRow}
+use Rattle.dy_runnable.specs.Core.{CoreLibrary, seen_generic, seen_method, seen_top}
+use Rattle.dy_runnable.specs.declared.program.LibraryRow.{LibraryRow}
 use Rattle.dy_build.specs.Forms.{FormTree, seen, seen_form}
 use Rattle.dy_build.specs.Names.{name_of, method_names}
 use Rattle.dy_build.specs.Core.{tops_of, generic_core, method_core, methods_core}

@@ -1,6 +1,6 @@
 use Rattle.std.proofs.Common.{◌≡◌, [], ◌∷◌, map, flat_map, take}
 use Rattle.dy_base.specs.Folding.{folded}
-use Rattle.dy_term.specs.Core.{seen_generic, seen_method, seen_top}
+use Rattle.dy_runnable.specs.Core.{seen_generic, seen_method, seen_top}
 use Rattle.dy_build.specs.Forms.{seen_form}
 use Rattle.dy_build.specs.Names.{method_names}
 use Rattle.dy_build.specs.Core.{generic_core, methods_core, tops_of}
