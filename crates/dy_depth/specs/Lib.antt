@@ -1,0 +1,4 @@
+pub mod Changes
+pub mod ReaderChanges
+pub mod Capping
+pub mod FormItems
