@@ -1,0 +1,12 @@
+pub mod Cut
+pub mod FormFront
+pub mod FragmentParts
+pub mod Front
+pub mod ItemFront
+pub mod Names
+pub mod Nesting
+pub mod PieceKind
+pub mod Pieces
+pub mod Separators
+pub mod Sides
+pub mod WordsFront
