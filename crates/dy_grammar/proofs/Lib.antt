@@ -1,0 +1,11 @@
+mod Appends
+mod Breaks
+mod Endings
+mod Held
+mod Joined
+mod Links
+mod Lists
+mod Rows
+mod Separated
+mod Steps
+mod Wholes

@@ -1,0 +1,5 @@
+pub mod Held
+pub mod Joined
+pub mod Parts
+pub mod Plain
+pub mod Separated
