@@ -37,7 +37,7 @@ read_one_more before next (Some others) = ap Some (sym (append_assoc before (nex
 
 -- A part is read, and then what stands behind its separator, where what is read is changed.
 module _ {A : Type 0} (change : A → A) where
-  change_with : (first : Option A) (others : Option (List A)) → option_map (map change) (with_others first others) ≡ with_others (option_map change first) (option_map (map change) others)
+  pub change_with : (first : Option A) (others : Option (List A)) → option_map (map change) (with_others first others) ≡ with_others (option_map change first) (option_map (map change) others)
   change_with None others = refl
   change_with (Some first) None = refl
   change_with (Some first) (Some others) = refl
@@ -68,3 +68,13 @@ module _ {A : Type 0} (change : A → A) where
     pub part_fails : (before : List A) (fragments : List SeenFragment) (first : List Item) (rest : List SeenFragment) → cut separates false (items_of fragments) ≡ pieces_behind separates first rest → None ≡ option_map change (read first)
         → None ≡ read_before before (option_map (map change) (each_part separates read (Some fragments)))
     part_fails before fragments first rest cuts e = sym (ap (read_before before) (part_is fragments first rest None cuts e))
+
+  -- the same where the first is read in some other way
+  pub more_read : (before after : List A) (next : A) (found : Option A) (others : Option (List A)) → Some next ≡ option_map change found → after ≡ before ++ next ∷ []
+      → read_before before (option_map (map change) (with_others found others)) ≡ read_before after (option_map (map change) others)
+  more_read before after next found others e more =
+      ap (read_before before) (change_with found others ∙ ap (λ (it : Option A). with_others it (option_map (map change) others)) (sym e)) ∙ read_one_more before next (option_map (map change) others)
+      ∙ ap (λ (all : List A). read_before all (option_map (map change) others)) (sym more)
+
+  pub more_fails : (before : List A) (found : Option A) (others : Option (List A)) → None ≡ option_map change found → None ≡ read_before before (option_map (map change) (with_others found others))
+  more_fails before found others e = sym (ap (read_before before) (change_with found others ∙ ap (λ (it : Option A). with_others it (option_map (map change) others)) (sym e)))

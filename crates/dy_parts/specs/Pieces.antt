@@ -53,3 +53,8 @@ left (Some slice) = suc (length slice.now)
 abbrev pub each_part : {A : Type 0} → (SeenFragment → Bool) → (List Item → Option A) → Option (List SeenFragment) → Option (List A)
 each_part separates read None = Some []
 each_part separates read (Some fragments) = each read (cut separates false (items_of fragments))
+
+-- fragments, where there are any
+abbrev pub unless_empty : List SeenFragment → Option (List SeenFragment)
+unless_empty [] = None
+unless_empty (first ∷ rest) = Some (first ∷ rest)

@@ -63,7 +63,7 @@ fn group_begins_value(bracket: Bracket, inner: &[Fragment]) -> bool
     }
 }
 
-fn role_begins_value(role: Role) -> bool
+pub fn role_begins_value(role: Role) -> bool
     ensures { result ≡ spec.role_begins_value (seen_role role) }
 {
     matches!(role, Role::Minus) || begins_operand(role)

@@ -1,0 +1,11 @@
+pub mod ClauseShapes
+pub mod Divisions
+pub mod ItemShapes
+pub mod Keys
+pub mod ListHeads
+pub mod ListParts
+pub mod LoopNesting
+pub mod LoopShapes
+pub mod PieceNesting
+pub mod RequiredParts
+pub mod Steps

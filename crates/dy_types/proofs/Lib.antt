@@ -1,0 +1,14 @@
+pub mod Bounds
+pub mod ConstantCaps
+pub mod ConstantLists
+pub mod ConstantShapes
+pub mod Endings
+pub mod LimitParts
+pub mod NextNesting
+pub mod ResultParts
+pub mod Rows
+pub mod Singles
+pub mod TargetParts
+pub mod TypeCaps
+pub mod TypeShapes
+pub mod VariableParts

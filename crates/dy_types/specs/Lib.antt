@@ -1,0 +1,15 @@
+pub mod ConstantCaps
+pub mod ConstantFronts
+pub mod ConstantLists
+pub mod ConstantShapes
+pub mod Divisions
+pub mod Endings
+pub mod Limits
+pub mod Results
+pub mod Targets
+pub mod Tests
+pub mod TypeCaps
+pub mod TypeFronts
+pub mod TypeShapes
+pub mod VariableFronts
+pub mod VariableShapes
