@@ -1,12 +1,15 @@
 //! Whole forms.
 
-ghost use Rattle.std.specs.Prelude.{◌≡◌, ◌++◌, List, [], ◌∷◌, map, codes, IfOk, OnOk};
+ghost use Rattle.std.specs.Prelude.{◌≡◌, ◌≤◌, ◌++◌, List, [], ◌∷◌, map, codes, IfOk, OnOk};
 ghost use Rattle.dy_tree.specs.Fragments.{SeenFragment, one, seen_fragments};
 ghost use Rattle.dy_syntax.specs.Trees.{body_of};
 ghost use Rattle.dy_syntax.specs.Forms.{IsForm, class_form, generic_form, method_form, function_form, domain_form};
 ghost use Rattle.dy_syntax.specs.Marks.{equals_mark, semicolon_mark, statement_group, word_mark};
 ghost use Rattle.dy_syntax.specs.TypeWriting.{written_target};
 ghost use Rattle.dy_syntax.specs.Writing.{written, written_body, written_signature};
+ghost use Rattle.dy_syntax.specs.Depth.{depth_limit};
+ghost use Rattle.dy_syntax.specs.FormDepth.{form_depth};
+ghost use Rattle.dy_syntax.specs.Parsing.{accepted, parsed};
 ghost use Rattle.dy_syntax.specs.FormWriting.{written_form};
 ghost use Rattle.dy_syntax.specs.SeenTypes.{seen_target, seen_type};
 ghost use Rattle.dy_syntax.specs.SeenForms.{seen_form, seen_item, seen_parameters, seen_slot, seen_tree};
@@ -242,6 +245,8 @@ pub fn unparse(alloc: Global, form: &Form) -> Result<Vec<Fragment>, AllocError>
     ensures writes { IfOk result (λ fragments. seen_fragments fragments.items ≡ written_form (seen_form form.now)) }
     // What stands for some fragments is what the fragments that are given stand for.
     ensures stands { (fragments : List SeenFragment) → IsForm (seen_form form.now) fragments → IfOk result (λ written. IsForm (seen_form form.now) (seen_fragments written.items)) }
+    // It is told to be this form, where it is within the limit of depth.
+    ensures again { (fragments : List SeenFragment) → IsForm (seen_form form.now) fragments → form_depth (seen_form form.now) ≤ depth_limit → IfOk result (λ written. parsed (seen_fragments written.items) ≡ accepted (seen_form form.now)) }
 {
     let mut out = Vec::new(alloc);
     push_form(alloc, form, &mut out)?;

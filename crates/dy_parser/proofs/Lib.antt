@@ -1,0 +1,7 @@
+mod Answers
+mod Deepest
+mod DefinitionParts
+mod Ends
+mod FormParts
+mod SlotParts
+mod Told

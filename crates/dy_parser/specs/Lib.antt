@@ -1,0 +1,4 @@
+pub mod Answers
+pub mod ReadDefinitions
+pub mod ReadForms
+pub mod Told

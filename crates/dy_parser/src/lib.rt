@@ -1,0 +1,11 @@
+//! Reads the fragments of a form as a tree.
+#![tactic(auto)]
+
+mod definitions;
+mod form_read;
+mod forms;
+mod name_front;
+mod parsing;
+mod slots;
+
+pub use parsing::parse;
