@@ -1,5 +1,6 @@
 -- Drafts of terms without where they lie in memory.
 use Rattle.std.specs.Prelude.{ℕ, Bool, List, [], ◌∷◌, map, Option, Some, None}
+use Rattle.std.specs.Option.{option_map}
 use Rattle.dy_tree.specs.declared.token.Token.{Token}
 use Rattle.dy_term.specs.declared.term.Limit.{Limit}
 use Rattle.dy_term.specs.declared.draft.Local.{Local}
@@ -7,6 +8,9 @@ use Rattle.dy_term.specs.declared.draft.DraftTerm.{DraftTerm, Lit, Name, Hidden,
 use Rattle.dy_term.specs.declared.draft.DraftItem.{DraftItem, Run, Let, LetMethods', Handler, Row_of-DraftItem-LetMethods-0-2, end_of-DraftItem-LetMethods-0-2, more_of-DraftItem-LetMethods-0-2}
 use Rattle.dy_term.specs.declared.draft.DraftForClause.{DraftForClause, Then, In, From', Held-DraftForClause-From-3, DraftForClause-From-3-None', DraftForClause-From-3-Some'}
 use Rattle.dy_term.specs.declared.draft.DraftBlock.{DraftBlock, DraftBlock', Row_of-DraftBlockClause, end_of-DraftBlockClause, more_of-DraftBlockClause}
+use Rattle.dy_term.specs.declared.draft.DraftArm.{DraftArm}
+use Rattle.dy_term.specs.declared.draft.DraftBlockClause.{DraftBlockClause}
+use Rattle.dy_term.specs.declared.draft.DraftLambda.{DraftLambda}
 use Rattle.dy_term.specs.Literals.{Constant, seen_literal}
 use Rattle.dy_term.specs.Types.{CoreType, CoreParams, CoreResults, seen_type, seen_typed, seen_params, seen_results}
 
@@ -211,3 +215,33 @@ abbrev mutual
 -- a test and its term
 abbrev pub seen_pair : DraftTerm × DraftTerm → Core × Core
 seen_pair pair = (seen_term pair.0, seen_term pair.1)
+
+-- a term that may be left out
+abbrev pub seen_option : Option DraftTerm → MaybeCore
+seen_option term = maybe_of (option_map seen_term term)
+
+-- an arm of a `select`
+abbrev pub seen_arm : DraftArm → CoreArm
+seen_arm arm = record { values = map seen_term arm.values.items; body = seen_term arm.body }
+
+-- an `exception` clause
+abbrev pub seen_catch : DraftBlockClause → CoreCatch
+seen_catch clause = record { variable = clause.variable; condition = seen_type clause.condition; body = seen_term clause.body }
+
+-- a body with parameters
+abbrev pub seen_lambda : DraftLambda → CoreLambda
+seen_lambda found = lambda (seen_params found.params) (cores_of (map seen_term found.defaults.items)) (seen_term found.body) (seen_results found.results)
+
+-- a local method and its name
+abbrev pub seen_method : Token × DraftLambda → Token × CoreLambda
+seen_method pair = (pair.0, seen_lambda pair.1)
+
+-- where the numbers of a `for` end
+abbrev pub seen_bound : Option (Limit × DraftTerm) → CoreLimit
+seen_bound None = no_limit
+seen_bound (Some pair) = a_limit pair.0 (seen_term pair.1)
+
+-- the test that ends a `for`
+abbrev pub seen_ending : Option (Bool × DraftTerm) → CoreTest
+seen_ending None = no_test
+seen_ending (Some pair) = a_test pair.0 (seen_term pair.1)

@@ -1,3 +1,4 @@
 pub mod Drafts
 pub mod Literals
+pub mod Rows
 pub mod Types

@@ -46,7 +46,7 @@ pub struct DraftKey {
 #[derive(Debug, Drop)]
 pub struct DraftParams {
     pub required: Vec<(Token, DraftType)>,
-    /// The name of the next method. It stands outside the other parameters.
+    /// The name that is written for the next method. It stands behind the required parameters.
     pub next: Option<Token>,
     pub rest: Option<Token>,
     pub keys: Option<Vec<DraftKey>>,
@@ -223,6 +223,8 @@ pub struct DraftGeneric {
 pub struct DraftMethod {
     pub generic: Token,
     pub is_sealed: bool,
+    /// The name of the next method where none is written. It stands outside the parameters.
+    pub next: Option<Token>,
     pub code: DraftLambda,
 }
 

@@ -4,6 +4,7 @@
 mod draft;
 mod literal;
 mod rows;
+mod statements;
 mod term;
 mod terms;
 mod types;
@@ -13,10 +14,14 @@ pub use draft::{
     DraftForClause, DraftGeneric, DraftInit, DraftItem, DraftKey, DraftLambda, DraftMethod,
     DraftParams, DraftResults, DraftSlot, DraftTerm, DraftTop, DraftType, DraftVariable, Local,
 };
-pub use literal::Literal;
+pub use literal::{Literal, list_literal, vector_literal};
 pub use rows::{
     ClassRow, DomainRow, GenericRow, Init, LibraryRow, MethodCode, MethodRow, Program, Row,
     SlotKind, SlotRow, TopTerm, VariableRow,
+};
+pub use statements::{
+    block_draft, for_draft, from_draft, local_draft, method_draft, select_draft, union_draft,
+    values_draft,
 };
 pub use term::{BlockRow, ForClause, ForRow, Item, Lambda, Limit, Term};
 pub use terms::{

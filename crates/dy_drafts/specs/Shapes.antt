@@ -1,0 +1,143 @@
+-- Literals, types and parameter lists of the source, in the core (DRM 3, "Literal constants"; DRM 4, "Types"; DRM 6,
+-- "Parameter lists").
+use Rattle.std.specs.Prelude.{ℕ, ℤ, pos, negsuc, Bool, true, false, List, [], ◌∷◌, map, codes, Option, Some, None, if◌then◌else◌}
+use Rattle.std.specs.Option.{option_map}
+use Rattle.std.specs.Str.{bytes_eq}
+use Rattle.std.specs.Int.{int_wrapping_neg, w64}
+use Rattle.dy_base.specs.Folding.{folded}
+use Rattle.dy_tree.specs.declared.token.Token.{Token}
+use Rattle.dy_tree.specs.declared.token.TokenKind.TheVariants as kinds
+use Rattle.dy_tree.specs.declared.types.IntegerForm.{IntegerForm}
+use Rattle.dy_tree.specs.declared.types.LiteralForm.{LiteralForm}
+use Rattle.dy_tree.specs.declared.types.LiteralForm.TheVariants.{Int, Char, Str, Bool as Truth, Symbol}
+use Rattle.dy_tree.specs.declared.types.BoundForm.{BoundForm}
+use Rattle.dy_tree.specs.declared.types.SingleForm.{SingleForm}
+use Rattle.dy_tree.specs.declared.types.SingleForm.TheVariants.{Literal, Empty, Name}
+use Rattle.dy_term.specs.declared.draft.Local.{Local}
+use Rattle.dy_term.specs.declared.draft.Local.TheVariants.{Named}
+use Rattle.dy_term.specs.Literals as core
+use Rattle.dy_term.specs.Types.{CoreType, object, named, single, single_name, union, range, CoreTypes, no_type, type_and, CoreKey, CoreParams, CoreResults}
+use Rattle.dy_drafts.specs.Trees as source
+use Rattle.dy_drafts.specs.Trees.{TypeTree, named_type, singleton_type, union_type, limited_type, TypeTrees, VariableTree, TargetTree, one_target, several_targets, RequiredTree, variable_required, single_required, ResultTree, one_result, several_results}
+
+-- whether a token has this text
+abbrev pub reads : List ℕ → Token → Bool
+reads text token = bytes_eq token.text text
+
+-- a name that is not written, with the place, the origin and the module of a token
+abbrev pub name_at : List ℕ → Token → Token
+name_at text token = record token { kind = kinds.Name; text = text }
+
+-- the least integer of 64 bits, -(2 ^ 63), and the greatest one, 2 ^ 63 - 1
+abbrev pub least : ℤ
+least = negsuc 9223372036854775807
+
+abbrev pub greatest : ℤ
+greatest = pos 9223372036854775807
+
+-- the number of digits, which is below 2 ^ 63, or its negative after a minus
+abbrev pub integer_of : IntegerForm → ℤ
+integer_of form = elim form.minus as (λ _. ℤ) [
+  | None ↦ form.digits.number
+  | Some minus ↦ int_wrapping_neg w64 form.digits.number
+]
+
+abbrev pub byte_of : List ℕ → ℕ
+byte_of [] = 0
+byte_of (byte ∷ bytes) = byte
+
+abbrev pub literal_of : LiteralForm → core.Constant
+literal_of (Int form) = core.int (integer_of form)
+literal_of (Char token) = core.char (byte_of token.text)
+literal_of (Str token) = core.str token.text
+literal_of (Truth token) = core.bool (reads (codes "#t") token)
+literal_of (Symbol token) = core.symbol (folded token.text)
+
+-- `#()` is the empty list. A list with items ends in what follows its dot.
+abbrev pub list_of : core.Constants → core.Tail → core.Constant
+list_of core.no_constant last = core.nil
+list_of (core.constant_and first rest) last = core.list (core.constant_and first rest) last
+
+abbrev mutual
+  pub constant_of : source.Constant → core.Constant
+  constant_of (source.literal_item value) = literal_of value
+  constant_of (source.list_item opener items tail) = list_of (constants_of items) (tail_of tail)
+  constant_of (source.vector_item opener items) = core.vector (constants_of items)
+
+  pub constants_of : source.Constants → core.Constants
+  constants_of source.no_constant = core.no_constant
+  constants_of (source.constant_and first rest) = core.constant_and (constant_of first) (constants_of rest)
+
+  pub tail_of : source.Tail → core.Tail
+  tail_of source.no_tail = core.no_tail
+  tail_of (source.a_tail value) = core.tail (constant_of value)
+
+-- the only value of a singleton type. A fault of a class's name is told at the given token.
+abbrev pub single_of : Token → SingleForm → CoreType
+single_of told (Literal value) = single (literal_of value)
+single_of told (Empty opener) = single core.nil
+single_of told (Name token) = single_name told token
+
+-- the number of the first bound with this keyword, or the one that is the limit without it
+abbrev pub bound_of : List ℕ → ℤ → List BoundForm → ℤ
+bound_of text other [] = other
+bound_of text other (bound ∷ bounds) = if reads text bound.keyword then integer_of bound.number else bound_of text other bounds
+
+abbrev mutual
+  pub type_of : TypeTree → CoreType
+  type_of (named_type token) = named token
+  type_of (singleton_type word value) = single_of word value
+  type_of (union_type word types) = union word (types_of types)
+  type_of (limited_type word class bounds) = range word (bound_of (codes "min") least bounds) (bound_of (codes "max") greatest bounds)
+
+  pub types_of : TypeTrees → CoreTypes
+  types_of source.no_type = no_type
+  types_of (source.type_and first rest) = type_and (type_of first) (types_of rest)
+
+-- a type that may be left out
+abbrev pub declared_or : CoreType → Option TypeTree → CoreType
+declared_or other None = other
+declared_or other (Some tree) = type_of tree
+
+abbrev pub declared_of : VariableTree → CoreType
+declared_of variable = declared_or object variable.declared
+
+-- a variable with its type, as a parameter and as a local
+abbrev pub typed_of : VariableTree → Token × CoreType
+typed_of variable = (variable.name, declared_of variable)
+
+abbrev pub local_of : VariableTree → Local × CoreType
+local_of variable = (Named variable.name, declared_of variable)
+
+-- what a `let` binds
+abbrev pub locals_of : TargetTree → List (Local × CoreType)
+locals_of (one_target variable) = local_of variable ∷ []
+locals_of (several_targets variables rest) = map local_of variables
+
+abbrev pub rest_of : TargetTree → Option Local
+rest_of (one_target variable) = None
+rest_of (several_targets variables rest) = option_map Named rest
+
+-- the type of the parameter in `name == value`. A fault of a class's name is told at that name.
+abbrev pub only_of : SingleForm → CoreType
+only_of (Literal value) = single (literal_of value)
+only_of (Empty opener) = single core.nil
+only_of (Name class) = single_name class class
+
+abbrev pub required_of : RequiredTree → Token × CoreType
+required_of (variable_required variable) = typed_of variable
+required_of (single_required token value) = (token, only_of value)
+
+-- Without a list of results there may be any values.
+abbrev pub results_of : Option ResultTree → CoreResults
+results_of None = record { required = []; rest = Some object }
+results_of (Some (one_result variable)) = record { required = declared_of variable ∷ []; rest = None }
+results_of (Some (several_results variables rest)) = record { required = map declared_of variables; rest = option_map declared_of rest }
+
+-- the keyword of a keyword parameter, which is the variable's name where none is written
+abbrev pub keyword_of : Option Token → VariableTree → Token
+keyword_of None variable = variable.name
+keyword_of (Some symbol) variable = symbol
+
+abbrev pub key_of : Option Token → VariableTree → CoreKey
+key_of symbol variable = record { keyword = keyword_of symbol variable; variable = variable.name; declared = declared_of variable }
