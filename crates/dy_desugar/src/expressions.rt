@@ -1,0 +1,206 @@
+//! Expressions as terms of the core (DRM 4).
+
+ghost use Rattle.std.specs.Prelude.{◌≡◌, map, flat_map, IfOk};
+ghost use Rattle.dy_term.specs.Drafts.{no_place, seen_term};
+ghost use Rattle.dy_drafts.specs.Parts.{setting, setter_at};
+ghost use Rattle.dy_desugar.specs.Sources.{seen};
+ghost use Rattle.dy_desugar.specs.Groups as groups;
+ghost use Rattle.dy_desugar.specs.Table as table;
+ghost use Rattle.dy_desugar.specs.Lists.{argument_terms};
+
+use crate::choices::choice_of;
+use crate::first::{first_token, name_in};
+use crate::group::{Group, group_of};
+use crate::scopes::scope_of;
+use crate::turns::loop_of;
+use dy_drafts::{
+    element, keyword_of, list_of, literal_of, logical, member, operation, set_element, set_member,
+    setter_at, setting, unary, vector_of,
+};
+use dy_term::{DraftTerm, call_draft, no_place_draft, set_draft};
+use dy_tree::{Argument, Expression, Token};
+use std::alloc::{AllocError, Global};
+
+/// The term of an expression.
+#[cycle(terms)]
+pub fn term_of(alloc: Global, expression: &Expression) -> Result<DraftTerm, AllocError>
+    ensures { IfOk result (λ term. seen_term term ≡ table.core_of (seen expression.now)) }
+{
+    match group_of(expression) {
+        Group::Operator => operator_of(alloc, expression),
+        Group::Operand => operand_of(alloc, expression),
+        Group::Choice => choice_of(alloc, expression),
+        Group::Loop => loop_of(alloc, expression),
+        Group::Scope => scope_of(alloc, expression),
+    }
+}
+
+/// The term of an operator with its operands.
+#[cycle(terms)]
+fn operator_of(alloc: Global, expression: &Expression) -> Result<DraftTerm, AllocError>
+    requires { groups.group_of (seen expression.now) ≡ Group.Operator }
+    ensures { IfOk result (λ term. seen_term term ≡ table.core_of (seen expression.now)) }
+{
+    match expression {
+        Expression::Assign { place, value } => {
+            let value = term_of(alloc, value)?;
+            assignment_of(alloc, place, value)
+        }
+        Expression::Logical {
+            left,
+            operator,
+            right,
+        } => {
+            let left = term_of(alloc, left)?;
+            let right = term_of(alloc, right)?;
+            logical(alloc, left, operator, right)
+        }
+        Expression::Comparison {
+            left,
+            operator,
+            right,
+        }
+        | Expression::Sum {
+            left,
+            operator,
+            right,
+        }
+        | Expression::Product {
+            left,
+            operator,
+            right,
+        }
+        | Expression::Power {
+            left,
+            operator,
+            right,
+        } => {
+            let left = term_of(alloc, left)?;
+            let right = term_of(alloc, right)?;
+            operation(alloc, left, operator, right)
+        }
+        Expression::Unary { operator, operand } => {
+            let operand = term_of(alloc, operand)?;
+            unary(alloc, operator, operand)
+        }
+        _ => unreachable!(),
+    }
+}
+
+/// The term of what stands between operators.
+#[cycle(terms)]
+fn operand_of(alloc: Global, expression: &Expression) -> Result<DraftTerm, AllocError>
+    requires { groups.group_of (seen expression.now) ≡ Group.Operand }
+    ensures { IfOk result (λ term. seen_term term ≡ table.core_of (seen expression.now)) }
+{
+    match expression {
+        Expression::Call {
+            function,
+            arguments,
+        } => {
+            let function = term_of(alloc, function)?;
+            let arguments = arguments_of(alloc, arguments)?;
+            call_draft(alloc, function, arguments)
+        }
+        Expression::Element {
+            object,
+            opener,
+            index,
+        } => {
+            let object = term_of(alloc, object)?;
+            let index = term_of(alloc, index)?;
+            element(alloc, object, opener, index)
+        }
+        Expression::Member { object, name } => {
+            let object = term_of(alloc, object)?;
+            member(alloc, object, name)
+        }
+        Expression::Literal(form) => Ok(DraftTerm::Lit(literal_of(alloc, form)?)),
+        Expression::Name(token) => Ok(DraftTerm::Name(token.copy()?)),
+        Expression::List { items, tail, .. } => Ok(DraftTerm::Lit(list_of(alloc, items, tail)?)),
+        Expression::Vector { items, .. } => Ok(DraftTerm::Lit(vector_of(alloc, items)?)),
+        _ => unreachable!(),
+    }
+}
+
+/// The term of an assignment, from that of its value.
+#[cycle(terms)]
+fn assignment_of(
+    alloc: Global,
+    place: &Expression,
+    value: DraftTerm,
+) -> Result<DraftTerm, AllocError>
+    ensures { IfOk result (λ term. seen_term term ≡ table.assignment_of (seen place.now) (table.core_of (seen place.now)) (seen_term value)) }
+{
+    match place {
+        Expression::Name(token) => set_draft(alloc, token.copy()?, value),
+        Expression::Element {
+            object,
+            opener,
+            index,
+        } => {
+            let object = term_of(alloc, object)?;
+            let index = term_of(alloc, index)?;
+            set_element(alloc, object, opener, index, value)
+        }
+        Expression::Member { object, name } => {
+            let object = term_of(alloc, object)?;
+            set_member(alloc, object, name, value)
+        }
+        Expression::Call {
+            function,
+            arguments,
+        } => match name_in(function) {
+            Some(name) => set_call(alloc, name, arguments, value),
+            None => no_place_of(alloc, place, value),
+        },
+        _ => no_place_of(alloc, place, value),
+    }
+}
+
+/// The term of an assignment to a call of a name.
+#[cycle(terms)]
+fn set_call(
+    alloc: Global,
+    name: &Token,
+    arguments: &Vec<Argument>,
+    value: DraftTerm,
+) -> Result<DraftTerm, AllocError>
+    ensures { IfOk result (λ term. seen_term term ≡ setting (setter_at name.now) (flat_map argument_terms arguments.now.items) (seen_term value)) }
+{
+    let operands = arguments_of(alloc, arguments)?;
+    let setter = setter_at(alloc, name)?;
+    setting(alloc, setter, operands, value)
+}
+
+/// The term of an assignment to what is no place.
+#[cycle(terms)]
+fn no_place_of(alloc: Global, place: &Expression, value: DraftTerm) -> Result<DraftTerm, AllocError>
+    ensures { IfOk result (λ term. seen_term term ≡ no_place (table.first_token (seen place.now)) (table.core_of (seen place.now)) (seen_term value)) }
+{
+    let token = first_token(place).copy()?;
+    let found = term_of(alloc, place)?;
+    no_place_draft(alloc, token, found, value)
+}
+
+/// The terms of arguments: a keyword and its value are two.
+#[cycle(terms)]
+fn arguments_of(alloc: Global, arguments: &Vec<Argument>) -> Result<Vec<DraftTerm>, AllocError>
+    ensures { IfOk result (λ terms. map seen_term terms.items ≡ flat_map argument_terms arguments.now.items) }
+{
+    let mut terms = Vec::new(alloc);
+    for argument in arguments {
+        match argument {
+            Argument::Keyword { keyword, value } => {
+                let keyword = keyword_of(alloc, keyword)?;
+                let value = term_of(alloc, value)?;
+                terms.push(keyword)?;
+                terms.push(value)?;
+            }
+            Argument::Value(value) => {
+                terms.push(term_of(alloc, value)?)?;
+            }
+        }
+    }
+    Ok(terms)
+}
