@@ -99,7 +99,7 @@ fn write_fragments(out: &mut String, fragments: &Vec<Fragment>) -> Result<(), Al
 }
 
 /// The fragments of a text behind a header.
-fn fragments_of(alloc: Global, text: &str) -> Result<Vec<Fragment>, Refusal> {
+pub(crate) fn fragments_of(alloc: Global, text: &str) -> Result<Vec<Fragment>, Refusal> {
     let mut file = Vec::from_slice(alloc, b"module: m\n\n")?;
     file.extend_from_slice(text.as_bytes())?;
     if 4096 < file.len() {

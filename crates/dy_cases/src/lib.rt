@@ -1,6 +1,9 @@
-//! Commands that are run, and what they print; forms that are read, and how they are written again.
+//! Commands that are run, and what they print; forms that are read, how they are written again,
+//! and what they are in the core.
 #![tactic(auto)]
 
+#[cfg(test)]
+mod cores;
 #[cfg(test)]
 mod grammar;
 #[cfg(test)]

@@ -1,0 +1,48 @@
+-- Types that are written as calls, in terms of the lists that these hold.
+use Rattle.std.proofs.Common.{◌≡◌, List, [], ◌∷◌, map, refl, ap, ◌∙◌, rules}
+use Rattle.std.specs.Prelude.{Some, None}
+use Rattle.std.specs.Global.{Vec, Box}
+use Rattle.dy_tree.specs.declared.token.Token.{Token}
+use Rattle.dy_tree.specs.declared.expression.Argument.{Argument}
+use Rattle.dy_tree.specs.declared.expression.Argument.TheViews.{the_lemmas}
+use Rattle.dy_tree.specs.declared.expression.Expression.{Expression, Row_of-Argument, end_of-Argument, more_of-Argument, items-the_row-Argument}
+use Rattle.dy_tree.specs.declared.expression.Expression.TheVariants.{Call}
+use Rattle.dy_desugar.specs.Sources as source
+use Rattle.dy_desugar.specs.Sources.{Tree, Arguments, ArgumentTree, seen, seen_arguments, seen_argument}
+use Rattle.dy_desugar.specs.Table.{name_in}
+use Rattle.dy_desugar.specs.Lists.{arguments_in}
+use Rattle.dy_surface.specs.TypeConstants.{form_type, listed, type_in, types_in}
+
+arguments_row : {m : _} (row : Row_of-Argument m) → seen_arguments row ≡ arguments_in (map seen_argument (items-the_row-Argument m row))
+arguments_row end_of-Argument = refl
+arguments_row (more_of-Argument first rest) = ap (λ (others : Arguments). source.argument_and (seen_argument first) others) (arguments_row rest)
+
+seen_call : (function : Box Expression) (arguments : Vec Argument) → seen (Call function arguments) ≡ source.call (seen function.value) (arguments_in (map seen_argument arguments.items))
+seen_call function arguments = search (rules, the_lemmas, arguments_row)
+
+listed_in : (arguments : List ArgumentTree) → listed (arguments_in arguments) ≡ arguments
+listed_in [] = refl
+listed_in (first ∷ rest) = ap (λ (others : List ArgumentTree). first ∷ others) (listed_in rest)
+
+named_type : (function : Tree) (arguments : Arguments) (token : Token) → name_in function ≡ Some token → type_in (source.call function arguments) ≡ form_type token (listed arguments) (types_in arguments)
+named_type (source.name found) arguments token named =
+    let same : found ≡ token = cc in
+    ap (λ (word : Token). form_type word (listed arguments) (types_in arguments)) same
+named_type _ arguments token named = absurd cc
+
+unnamed_type : (function : Tree) (arguments : Arguments) → name_in function ≡ None → type_in (source.call function arguments) ≡ None
+unnamed_type (source.name found) arguments none = absurd cc
+unnamed_type _ arguments none = refl
+
+-- a call of a name, and of something else
+pub at_named : (function : Box Expression) (arguments : Vec Argument) (token : Token) → name_in (seen function.value) ≡ Some token
+    → type_in (seen (Call function arguments)) ≡ form_type token (map seen_argument arguments.items) (types_in (arguments_in (map seen_argument arguments.items)))
+at_named function arguments token named =
+    let passed = map seen_argument arguments.items in
+    ap type_in (seen_call function arguments)
+    ∙ named_type (seen function.value) (arguments_in passed) token named
+    ∙ ap (λ (list : List ArgumentTree). form_type token list (types_in (arguments_in passed))) (listed_in passed)
+
+pub at_unnamed : (function : Box Expression) (arguments : Vec Argument) → name_in (seen function.value) ≡ None → type_in (seen (Call function arguments)) ≡ None
+at_unnamed function arguments none =
+    ap type_in (seen_call function arguments) ∙ unnamed_type (seen function.value) (arguments_in (map seen_argument arguments.items)) none

@@ -1,0 +1,8 @@
+use Rattle.std.proofs.Common.{◌≡◌, map, take}
+use Rattle.dy_term.specs.Types.{seen_typed}
+use Rattle.dy_drafts.specs.Trees.{seen_variable}
+use Rattle.dy_drafts.specs.Shapes.{typed_of}
+use Rattle.dy_surface.proofs.forms.typed_in.Given as goal
+
+abbrev pub invariant-loop-variable : goal.invariant-loop-variable
+invariant-loop-variable l = map seen_typed l.typed.items ≡ map typed_of (map seen_variable (take l.variable-index l.variable-items))
