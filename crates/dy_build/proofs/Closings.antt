@@ -1,9 +1,10 @@
 -- How the end of a run becomes the end of a command.
-use Rattle.std.proofs.Common.{◌≡◌, ◌⊎◌, ℕ, List, [], length, Option, Some, None, Result, Ok, Err, inl, inr, refl, sym, subst, arith}
+use Rattle.std.proofs.Common.{◌≡◌, ◌≢◌, ◌⊎◌, ℕ, List, [], length, Option, Some, None, Result, Ok, Err, inl, inr, refl, sym, subst, arith}
 use Rattle.std.specs.Prelude.{OnOk, OnErr}
 use Rattle.std.specs.Borrow.{Bor}
 use Rattle.std.specs.Io.KnownBytes.{Appends}
 use Rattle.std.proofs.lemmas.List.{take_all, append-nil}
+use Rattle.dy_io.specs.Files.{FileMap}
 use Rattle.dy_io.specs.Sinks.{AppendsFront}
 use Rattle.dy_build.specs.declared.run.execute.RunEnd.{RunEnd}
 use Rattle.dy_build.specs.declared.run.execute.RunEnd.TheVariants as ends
@@ -14,8 +15,9 @@ use Rattle.dy_build.specs.Meaning.{Outcome, Gave, Exits, Ended, Spent}
 use Rattle.dy_build.specs.Machine.{Final, Finished, Failed, OutOfFuel, Unfinished}
 use Rattle.dy_build.specs.Code.{final_of}
 use Rattle.dy_build.specs.Endings.{EndsAs, Sends, sent_by}
-use Rattle.dy_build.specs.Outcome.{Report, Verdict, refused, run_report, build_report}
-use Rattle.dy_build.specs.Command.{PutsLine, final_report, Closes, Outputs, outputs, SentFront, Finishes}
+use Rattle.dy_build.specs.Words.{Build, usage_text}
+use Rattle.dy_build.specs.Outcome.{Report, Verdict, refused, run_report, build_report, usage_report, IsVerdict, IsCommand}
+use Rattle.dy_build.specs.Command.{PutsLine, final_report, Closes, Outputs, outputs, Nothing, SentFront, Finishes, Done}
 
 pub appends_front : (old new : Option (List ℕ)) (bytes : List ℕ) → Appends old new bytes → AppendsFront old new bytes
 appends_front old new bytes h = (length bytes, omega arith, subst (Appends old new) (sym (take_all (length bytes) bytes (omega arith))) h)
@@ -58,14 +60,57 @@ appends_nothing : (held : Option (List ℕ)) → Appends held held []
 appends_nothing None = tt
 appends_nothing (Some bytes) = sym (append-nil bytes)
 
-pub refused_finishes : (fuel : ℕ) (why : Refused) (verdict : Verdict) (result : ℕ) (a b c : Option (List ℕ)) → verdict ≡ refused why → PutsLine 2 (refusal_line why) result b c → Finishes (build_report fuel verdict) result (outputs a a b c)
-refused_finishes fuel why verdict result a b c is puts =
-    subst (λ (v : Verdict). Finishes (build_report fuel v) result (outputs a a b c)) (sym is) (line_finishes (build_report fuel (refused why)) result a a b c (appends_nothing a) puts)
+pub refused_finishes : (fuel : ℕ) (why : Refused) (result : ℕ) (a b c : Option (List ℕ)) → PutsLine 2 (refusal_line why) result b c → Finishes (build_report fuel (refused why)) result (outputs a a b c)
+refused_finishes fuel why result a b c puts = line_finishes (build_report fuel (refused why)) result a a b c (appends_nothing a) puts
 
 -- where a sink or memory failed, a front of the report was sent
-pub fronts_of : (report : Report) (result : ℕ) (ends : Outputs) → ((result ≡ 4) ⊎ Finishes report result ends) → ((result ≡ 5) ⊎ (result ≡ 6)) → SentFront report ends
-fronts_of report result ends (inl four) (inl five) = absurd (omega arith)
-fronts_of report result ends (inl four) (inr six) = absurd (omega arith)
-fronts_of report result ends (inr (inl (status, sent))) which =
+pub fronts_of : (report : Report) (result : ℕ) (ends : Outputs) → Finishes report result ends → ((result ≡ 5) ⊎ (result ≡ 6)) → SentFront report ends
+fronts_of report result ends (inl (status, sent)) which =
     record { out = appends_front _ _ report.out sent.out; err = appends_front _ _ report.err sent.err }
-fronts_of report result ends (inr (inr (cause, fronts))) which = fronts
+fronts_of report result ends (inr (cause, fronts)) which = fronts
+
+-- where no sink and no memory failed, all of the report was sent
+pub done_of : (report : Report) (result : ℕ) (ends : Outputs) → Finishes report result ends → result ≢ 5 → result ≢ 6 → Done report result ends
+done_of report result ends (inl done) five six = done
+done_of report result ends (inr (inl e, fronts)) five six = absurd (five e)
+done_of report result ends (inr (inr e, fronts)) five six = absurd (six e)
+
+-- ---- what a build comes to is what its words come to
+
+pub build_done : (held : FileMap) (words : Option Build) (command : Build) (result : ℕ) (ends : Outputs) → Some command ≡ words
+    → ((result ≡ 4) ⊎ (((result ≡ 6) × Nothing ends) ⊎ ((verdict : Verdict) × IsVerdict held command.lid verdict × Finishes (build_report command.fuel verdict) result ends)))
+    → result ≢ 4 → result ≢ 5 → result ≢ 6 → (report : Report) × IsCommand words held report × Done report result ends
+build_done held words command result ends e (inl h) four five six = absurd (four h)
+build_done held words command result ends e (inr (inl (h, nothing))) four five six = absurd (six h)
+build_done held words command result ends e (inr (inr (verdict, is, finishes))) four five six =
+    let report = build_report command.fuel verdict in
+    (report, subst (λ (w : Option Build). IsCommand w held report) e (verdict, is, refl), done_of report result ends finishes five six)
+
+pub build_front : (held : FileMap) (words : Option Build) (command : Build) (result : ℕ) (ends : Outputs) → Some command ≡ words
+    → ((result ≡ 4) ⊎ (((result ≡ 6) × Nothing ends) ⊎ ((verdict : Verdict) × IsVerdict held command.lid verdict × Finishes (build_report command.fuel verdict) result ends)))
+    → ((result ≡ 5) ⊎ (result ≡ 6)) → Nothing ends ⊎ ((report : Report) × IsCommand words held report × SentFront report ends)
+build_front held words command result ends e (inl four) (inl five) = absurd (omega arith)
+build_front held words command result ends e (inl four) (inr six) = absurd (omega arith)
+build_front held words command result ends e (inr (inl (six, nothing))) which = inl nothing
+build_front held words command result ends e (inr (inr (verdict, is, finishes))) which =
+    let report = build_report command.fuel verdict in
+    inr (report, subst (λ (w : Option Build). IsCommand w held report) e (verdict, is, refl), fronts_of report result ends finishes which)
+
+usage_finishes : (line : List ℕ) (result : ℕ) (a b c : Option (List ℕ)) → line ≡ usage_text → PutsLine 3 line result b c → Finishes usage_report result (outputs a a b c)
+usage_finishes line result a b c is puts =
+    line_finishes usage_report result a a b c (appends_nothing a) (subst (λ (l : List ℕ). PutsLine 3 l result b c) is puts)
+
+pub usage_done : (held : FileMap) (words : Option Build) (line : List ℕ) (result : ℕ) (a b c : Option (List ℕ)) → None ≡ words → line ≡ usage_text → PutsLine 3 line result b c
+    → result ≢ 5 → result ≢ 6 → (report : Report) × IsCommand words held report × Done report result (outputs a a b c)
+usage_done held words line result a b c e is puts five six =
+    (usage_report, subst (λ (w : Option Build). IsCommand w held usage_report) e refl, done_of usage_report result (outputs a a b c) (usage_finishes line result a b c is puts) five six)
+
+pub usage_front : (held : FileMap) (words : Option Build) (line : List ℕ) (result : ℕ) (a b c : Option (List ℕ)) → None ≡ words → line ≡ usage_text → PutsLine 3 line result b c
+    → ((result ≡ 5) ⊎ (result ≡ 6)) → Nothing (outputs a a b c) ⊎ ((report : Report) × IsCommand words held report × SentFront report (outputs a a b c))
+usage_front held words line result a b c e is puts which =
+    inr (usage_report, subst (λ (w : Option Build). IsCommand w held usage_report) e refl, fronts_of usage_report result (outputs a a b c) (usage_finishes line result a b c is puts) which)
+
+-- none of the causes of a status has come
+pub neither : {A B : Type 0} → (A → ⊥) → (B → ⊥) → (A ⊎ B) → ⊥
+neither no_a no_b (inl a) = no_a a
+neither no_a no_b (inr b) = no_b b

@@ -2,9 +2,9 @@
 use Rattle.std.proofs.Common.{◌≡◌, ℕ, ◌+◌, ◌<◌, Bool, true, false, cond, ◌||◌, List, [], ◌∷◌, ◌++◌, length, take, get_or, refl, ap, ◌∙◌, length-append}
 use Rattle.std.specs.List.{list_any}
 use Rattle.std.proofs.lemmas.List.Folds.{list_any-append}
-use Rattle.std.proofs.lemmas.List.{take_more}
+use Rattle.std.proofs.lemmas.List.{take_at, take_more}
 use Rattle.dy_build.specs.Layout.{is_line_feed}
-use Rattle.dy_build.specs.Points.{last_line}
+use Rattle.dy_build.specs.Points.{last_line, point_behind, point_at}
 
 or_true : (a b : Bool) → (a || (b || (true || false))) ≡ true
 or_true true b = refl
@@ -46,3 +46,7 @@ column_more bytes i lt e =
     ap (λ (bs : List ℕ). length (last_line bs)) (take_more bytes i 0 lt)
     ∙ ap length (last_line_more (take i bytes) (get_or bytes i 0) e)
     ∙ length-append (last_line (take i bytes)) (get_or bytes i 0 ∷ [])
+
+-- a place is told by what stands before it
+pub point_at-front : (front rest : List ℕ) → point_at (front ++ rest) (length front) ≡ point_behind front
+point_at-front front rest = ap point_behind (take_at front rest (length front) refl)

@@ -42,6 +42,10 @@ abbrev pub outputs : Option (List ℕ) → Option (List ℕ) → Option (List �
 outputs out_before out_now err_before err_now =
     record { out_before = out_before; out_now = out_now; err_before = err_before; err_now = err_now }
 
+-- nothing was sent
+abbrev pub Nothing : Outputs → Type 0
+Nothing outputs = (outputs.out_now ≡ outputs.out_before) × (outputs.err_now ≡ outputs.err_before)
+
 -- all of a report was sent
 pub record Sent (report : Report) (outputs : Outputs) : Type 0 where
   pub out : Appends outputs.out_before outputs.out_now report.out

@@ -1,17 +1,9 @@
-pub mod Forms
-pub mod Tokens
-pub mod Grammar
-pub mod Lexing
-pub mod Reading
 pub mod Layout
 pub mod Parts
 pub mod Words
 pub mod Points
 pub mod Refusals
 pub mod Lines
-pub mod Names
-pub mod Findings
-pub mod Core
 pub mod Values
 pub mod Dispatch
 pub mod Meaning

@@ -1,27 +1,26 @@
 -- What a command comes to (own).
-use Rattle.std.specs.Prelude.{ℕ, nat_le, List, [], length, Option, Some, None, Bool, false, if◌then◌else◌}
+use Rattle.std.specs.Prelude.{◌≡◌, ◌⊎◌, ℕ, ◌==◌, nat_le, List, [], ◌∷◌, length, Option, Some, None, Bool, true, false, ◌&&◌, if◌then◌else◌}
 use Rattle.std.specs.List.{concat}
 use Rattle.std.specs.FinMap as map
+use Rattle.dy_base.specs.declared.fault.Fault.{Fault}
+use Rattle.dy_base.specs.declared.fault.Place.{Place}
 use Rattle.dy_io.specs.Files.{FileMap}
+use Rattle.dy_lexer.specs.declared.source.Lid.{Lid}
+use Rattle.dy_lexer.specs.Sources.{IsLid, IsLidFault}
 use Rattle.dy_runnable.specs.Core.{CoreLibrary}
+use Rattle.dy_sources.specs.Verdicts as sources
+use Rattle.dy_build.specs.declared.source.File.{File as Held}
+use Rattle.dy_build.specs.declared.refused.Position.{Position}
 use Rattle.dy_build.specs.declared.refused.Refused.{Refused}
-use Rattle.dy_build.specs.Forms.{FormTree}
-use Rattle.dy_build.specs.Layout.{file_limit, with_line_feeds, Lid, lid_of, is_library_file, body_of, source_name}
+use Rattle.dy_build.specs.Layout.{file_limit, is_file_name, source_name}
 use Rattle.dy_build.specs.Words.{Build, build_of, usage_text}
-use Rattle.dy_build.specs.Refusals.{refusal_line, no_file, syntax, no_binding}
-use Rattle.dy_build.specs.declared.text.token.Spot.{Spot}
-use Rattle.dy_build.specs.declared.text.names.Finding.{Finding}
-use Rattle.dy_build.specs.declared.text.names.Finding.TheVariants.{Fine, Unbound, Unfit}
-use Rattle.dy_build.specs.Names.{findings, told}
+use Rattle.dy_build.specs.Refusals.{refusal_line, no_file, position_at, syntax}
 use Rattle.dy_build.specs.Points.{point_at, start}
 use Rattle.dy_build.specs.Lines.{unhandled_line, out_of_fuel_line}
-use Rattle.dy_build.specs.Lexing.{spots_of}
-use Rattle.dy_build.specs.Reading.{reading_in}
-use Rattle.dy_build.specs.Core.{program_of}
 use Rattle.dy_build.specs.Meaning.{Outcome, Gave, Exits, Ended, Spent, program_meaning}
 use Rattle.dy_build.specs.Machine.{no_block}
 
--- a file: absent, longer than a file may be, or a text whose lines end with LF
+-- a file: absent, longer than a file may be, or a text
 pub data Source : Type 0 where
   absent : Source
   too_long : Source
@@ -29,75 +28,94 @@ pub data Source : Type 0 where
 
 abbrev pub source_of : Option (List ℕ) → Source
 source_of None = absent
-source_of (Some bytes) = if nat_le (length bytes) file_limit then text (with_line_feeds bytes) else too_long
+source_of (Some bytes) = if nat_le (length bytes) file_limit then text bytes else too_long
 
 abbrev pub source_at : FileMap → List ℕ → Source
 source_at files name = source_of (map.get files name)
-
-abbrev pub lid_in : Source → Option Lid
-lid_in (text bytes) = lid_of bytes
-lid_in _ = None
-
-abbrev pub is_library_source : Source → List ℕ → Bool
-is_library_source (text bytes) name = is_library_file bytes name
-is_library_source _ name = false
 
 -- why a library is refused, or the program that it is
 pub data Verdict : Type 0 where
   refused : (why : Refused) → Verdict
   accepted : (program : List CoreLibrary) → Verdict
 
--- by what is found of a text with these forms
-abbrev pub judged_found : List ℕ → List ℕ → List ℕ → List FormTree → Finding → Verdict
-judged_found library file bytes forms Fine = accepted (program_of library forms)
-judged_found library file bytes forms (Unbound name left) = refused (no_binding library file (point_at bytes left) name)
-judged_found library file bytes forms (Unfit left) = refused (syntax library file (point_at bytes left))
+-- a file that was read: its name, and its text
+pub record File : Type 0 where
+  pub name : List ℕ
+  pub text : List ℕ
 
--- By the tokens behind the header of a text. These stand at its end, so as much of it is left at each.
-abbrev pub judged_spots : List ℕ → List ℕ → List ℕ → List Spot → Verdict
-judged_spots library file bytes spots =
-    let reading = reading_in spots in judged_found library file bytes reading.forms (told (findings reading spots))
+abbrev pub file : List ℕ → List ℕ → File
+file name bytes = record { name = name; text = bytes }
 
-abbrev pub judged_body : List ℕ → List ℕ → List ℕ → Option (List ℕ) → Verdict
-judged_body library file bytes None = refused (syntax library file start)
-judged_body library file bytes (Some body) = judged_spots library file bytes (spots_of body)
+abbrev pub file_of : Held → File
+file_of held = file held.name.now held.text.now
 
--- the file that holds the forms
-abbrev pub judged_forms : List ℕ → List ℕ → Source → Verdict
-judged_forms library file (text bytes) = judged_body library file bytes (body_of bytes library)
-judged_forms library file _ = refused (syntax library file start)
+-- the file of this number, 0 or 1
+abbrev pub file_at : File → File → ℕ → File
+file_at first second number = if number == 0 then first else second
 
--- both files are there: the first is to define the library, and the second holds its forms
-abbrev pub judged_texts : List ℕ → List ℕ → List ℕ → Source → Source → Verdict
-judged_texts library first second a b =
-    if is_library_source a library then judged_forms library second b else refused (syntax library first start)
+-- the place at this offset of a file
+abbrev pub position_in : File → ℕ → Position
+position_in file offset = position_at file.name (point_at file.text offset)
 
-abbrev pub judged_second : List ℕ → List ℕ → List ℕ → Source → Source → Verdict
-judged_second library first second a absent = refused (no_file library second)
-judged_second library first second a too_long = judged_texts library first second a too_long
-judged_second library first second a (text bytes) = judged_texts library first second a (text bytes)
+-- where a fault stands, as a user counts
+abbrev pub position_of : File → File → Option Place → Option Position
+position_of first second None = None
+position_of first second (Some place) = Some (position_in (file_at first second place.file) place.offset)
 
--- absent files are told before their forms
-abbrev pub judged_first : List ℕ → List ℕ → List ℕ → Source → Source → Verdict
-judged_first library first second absent b = refused (no_file library first)
-judged_first library first second too_long b = judged_second library first second too_long b
-judged_first library first second (text bytes) b = judged_second library first second (text bytes) b
+-- a fault with its subject, and with its place as a user counts
+abbrev pub located : List ℕ → File → File → Fault → Refused
+located subject first second fault =
+    record { kind = fault.kind; subject = subject; position = position_of first second fault.place; shown = fault.shown }
 
-abbrev pub judged_parts : FileMap → List ℕ → Option Lid → Verdict
-judged_parts files lid None = refused (syntax lid lid start)
-judged_parts files lid (Some parts) =
-    let first = source_name lid parts.first in
-    let second = source_name lid parts.second in
-    judged_first parts.library first second (source_at files first) (source_at files second)
+abbrev pub located_verdict : List ℕ → File → File → sources.Verdict → Verdict
+located_verdict library first second (sources.refused fault) = refused (located library first second fault)
+located_verdict library first second (sources.accepted program) = accepted program
 
-abbrev pub judged_lid : FileMap → List ℕ → Source → Verdict
-judged_lid files lid absent = refused (no_file lid lid)
-judged_lid files lid too_long = judged_parts files lid None
-judged_lid files lid (text bytes) = judged_parts files lid (lid_of bytes)
+-- what the texts of two files come to
+abbrev pub JudgesTexts : List ℕ → File → File → Verdict → Type 0
+JudgesTexts library first second verdict =
+    (judged : sources.Verdict) × sources.IsVerdict library first.text second.text judged × (verdict ≡ located_verdict library first second judged)
 
--- the library of a LID file: its first fault, or the program
-abbrev pub verdict : FileMap → List ℕ → Verdict
-verdict files lid = judged_lid files lid (source_at files lid)
+-- Absent files are told first, and then files that are too long.
+abbrev pub JudgesFiles : List ℕ → List ℕ → List ℕ → Source → Source → Verdict → Type 0
+JudgesFiles library first second absent b verdict = verdict ≡ refused (no_file library first)
+JudgesFiles library first second too_long absent verdict = verdict ≡ refused (no_file library second)
+JudgesFiles library first second (text a) absent verdict = verdict ≡ refused (no_file library second)
+JudgesFiles library first second too_long too_long verdict = verdict ≡ refused (syntax library first start)
+JudgesFiles library first second too_long (text b) verdict = verdict ≡ refused (syntax library first start)
+JudgesFiles library first second (text a) too_long verdict = verdict ≡ refused (syntax library second start)
+JudgesFiles library first second (text a) (text b) verdict = JudgesTexts library (file first a) (file second b) verdict
+
+-- what a library comes to whose LID file names these files
+abbrev pub JudgesNamed : FileMap → List ℕ → List ℕ → List ℕ → List ℕ → Verdict → Type 0
+JudgesNamed files lid library first second verdict =
+    let a = source_name lid first in
+    let b = source_name lid second in
+    JudgesFiles library a b (source_at files a) (source_at files b) verdict
+
+abbrev pub JudgesIf : Bool → FileMap → List ℕ → List ℕ → List ℕ → List ℕ → Verdict → Type 0
+JudgesIf true files lid library first second verdict = JudgesNamed files lid library first second verdict
+JudgesIf false files lid library first second verdict = verdict ≡ refused (syntax lid lid start)
+
+-- A LID file is to name two files. The names that one gives are such that may be read.
+abbrev pub JudgesNames : FileMap → List ℕ → List ℕ → List (List ℕ) → Verdict → Type 0
+JudgesNames files lid library (first ∷ second ∷ []) verdict = JudgesIf (is_file_name first && is_file_name second) files lid library first second verdict
+JudgesNames files lid library _ verdict = verdict ≡ refused (syntax lid lid start)
+
+-- what the text of a LID file comes to: its first fault, or what the files that it names come to
+abbrev pub JudgesLid : FileMap → List ℕ → List ℕ → Verdict → Type 0
+JudgesLid files lid bytes verdict =
+    ((fault : Fault) × IsLidFault bytes fault × (verdict ≡ refused (located lid (file lid bytes) (file lid bytes) fault)))
+    ⊎ ((found : Lid) × IsLid bytes found × JudgesNames files lid found.library found.files verdict)
+
+abbrev pub JudgesSource : FileMap → List ℕ → Source → Verdict → Type 0
+JudgesSource files lid absent verdict = verdict ≡ refused (no_file lid lid)
+JudgesSource files lid too_long verdict = verdict ≡ refused (syntax lid lid start)
+JudgesSource files lid (text bytes) verdict = JudgesLid files lid bytes verdict
+
+-- what the library of a LID file comes to: its first fault, or the program
+abbrev pub IsVerdict : FileMap → List ℕ → Verdict → Type 0
+IsVerdict files lid verdict = JudgesSource files lid (source_at files lid) verdict
 
 -- the exit status, and what is sent to the output and to the error output
 pub record Report : Type 0 where
@@ -119,10 +137,10 @@ build_report fuel (accepted program) = run_report (program_meaning program fuel)
 abbrev pub usage_report : Report
 usage_report = record { status = 3; out = []; err = usage_text }
 
-abbrev pub command_report : Option Build → FileMap → Report
-command_report None files = usage_report
-command_report (Some command) files = build_report command.fuel (verdict files command.lid)
+abbrev pub IsCommand : Option Build → FileMap → Report → Type 0
+IsCommand None files report = report ≡ usage_report
+IsCommand (Some command) files report = (verdict : Verdict) × IsVerdict files command.lid verdict × (report ≡ build_report command.fuel verdict)
 
 -- what a command comes to, by its words and what the files hold; no command of today writes files
-abbrev pub outcome : List (List ℕ) → FileMap → Report
-outcome words files = command_report (build_of words) files
+abbrev pub IsOutcome : List (List ℕ) → FileMap → Report → Type 0
+IsOutcome words files report = IsCommand (build_of words) files report

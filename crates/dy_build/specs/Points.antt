@@ -1,12 +1,8 @@
--- Places in a text, as a user counts. It is stated of texts whose lines end with LF.
-use Rattle.std.specs.Prelude.{ℕ, ◌+◌, ◌-◌, List, [], ◌∷◌, length, take, if◌then◌else◌}
+-- Places in a text, as a user counts.
+use Rattle.std.specs.Prelude.{ℕ, ◌+◌, List, [], ◌∷◌, length, take, if◌then◌else◌}
 use Rattle.std.specs.List.{list_any, count_by}
 use Rattle.dy_build.specs.declared.point.Point.{Point}
 use Rattle.dy_build.specs.Layout.{is_line_feed}
-
--- what stands in a text before the place where so much of it is left
-abbrev pub before : List ℕ → ℕ → List ℕ
-before text left = take (length text - left) text
 
 -- what stands behind the last line end
 abbrev pub last_line : List ℕ → List ℕ
@@ -17,9 +13,9 @@ last_line (byte ∷ bytes) = if list_any is_line_feed (byte ∷ bytes) then last
 abbrev pub point_behind : List ℕ → Point
 point_behind bytes = record { line = 1 + count_by is_line_feed bytes; column = 1 + length (last_line bytes) }
 
--- the place where so much of the text is left
+-- the place at this offset
 abbrev pub point_at : List ℕ → ℕ → Point
-point_at text left = point_behind (before text left)
+point_at text offset = point_behind (take offset text)
 
 -- the begin of a text
 abbrev pub start : Point

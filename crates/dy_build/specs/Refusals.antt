@@ -2,7 +2,7 @@
 use Rattle.std.specs.Prelude.{ℕ, List, [], ◌∷◌, ◌++◌, Option, Some, None, codes, decimal, if◌then◌else◌}
 use Rattle.dy_base.specs.Kinds.{code_of, name_of}
 use Rattle.dy_base.specs.declared.kind.Kind.{Kind}
-use Rattle.dy_base.specs.declared.kind.Kind.TheVariants.{NoFile, Syntax, Unbound}
+use Rattle.dy_base.specs.declared.kind.Kind.TheVariants.{NoFile, Syntax}
 use Rattle.dy_build.specs.Layout.{is_same}
 use Rattle.dy_build.specs.declared.point.Point.{Point}
 use Rattle.dy_build.specs.declared.refused.Position.{Position}
@@ -40,7 +40,3 @@ position_at file point = record { file = file; line = point.line; column = point
 -- At this place a file is not in the grammar.
 abbrev pub syntax : List ℕ → List ℕ → Point → Refused
 syntax subject file point = record { kind = Syntax; subject = subject; position = Some (position_at file point); shown = [] }
-
--- The name at this place has no binding.
-abbrev pub no_binding : List ℕ → List ℕ → Point → List ℕ → Refused
-no_binding subject file point name = record { kind = Unbound; subject = subject; position = Some (position_at file point); shown = name ∷ [] }

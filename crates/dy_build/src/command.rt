@@ -1,6 +1,6 @@
 //! The commands, from their words to the exit status.
 
-ghost use Rattle.std.specs.Prelude.{◌≡◌, ◌≢◌, ◌≤◌, ◌⊎◌, ◌↔◌, ◌++◌, ℕ, List, length, Some, None, map, string_bytes};
+ghost use Rattle.std.specs.Prelude.{◌≡◌, ◌≢◌, ◌≤◌, ◌⊎◌, ◌++◌, ℕ, List, length, Some, None, map, string_bytes};
 ghost use Rattle.dy_io.specs.Causes.{Rose};
 ghost use Rattle.dy_io.specs.Files.{FileMap};
 ghost use Rattle.dy_runnable.specs.Core.{seen_program};
@@ -8,16 +8,10 @@ ghost use Rattle.dy_build.specs.Meaning.{program_meaning};
 ghost use Rattle.dy_build.specs.Machine.{Final};
 ghost use Rattle.dy_build.specs.Endings.{EndsAs};
 ghost use Rattle.dy_build.specs.Refusals.{refusal_line};
-ghost use Rattle.dy_build.specs.Outcome.{run_report, build_report, verdict, usage_report, outcome};
-ghost use Rattle.dy_build.specs.Command.{PutsLine, Closes, Finishes, Refuses, TellsFault, Stood, Done, SentFront, outputs};
+ghost use Rattle.dy_build.specs.Outcome.{Verdict, Report, run_report, build_report, usage_report, IsVerdict, IsOutcome};
+ghost use Rattle.dy_build.specs.Command.{PutsLine, Closes, Finishes, Refuses, TellsFault, Stood, Done, Nothing, SentFront, outputs};
 ghost use Rattle.dy_build.specs.Words.{build_of};
-ghost use Rattle.dy_build.specs.Layout.{Lid, lid_of, IsLid, body_of};
 ghost use Rattle.dy_build.specs.Points.{point_behind, point_at};
-ghost use Rattle.dy_build.specs.Forms.{FormTree};
-ghost use Rattle.dy_build.specs.Reading.{reading_of};
-ghost use Rattle.dy_build.specs.Names.{uses, use_of, behind_head, form_uses};
-ghost use Rattle.dy_build.specs.declared.text.token.Spot.{Spot};
-ghost use Rattle.dy_build.specs.Grammar.{bare, Fits, IsText, IsFaulty};
 ghost use Rattle.dy_build.specs.Lines.{file_fault_line};
 ghost use Rattle.dy_io.specs.Sinks.{AppendsFront};
 
@@ -118,7 +112,7 @@ fn build<F: Files, O: Sink, E: Sink>(
     out: &mut O,
     err: &mut E,
 ) -> u8
-    ensures finishes { (held : FileMap) → F.contents files.old ≡ Some held → (result ≡ 4) ⊎ Finishes (build_report fuel (verdict held lid.now)) result (outputs (O.contents out.old) (O.contents out.new) (E.contents err.old) (E.contents err.new)) }
+    ensures finishes { (held : FileMap) → F.contents files.old ≡ Some held → (result ≡ 4) ⊎ (((result ≡ 6) × Nothing (outputs (O.contents out.old) (O.contents out.new) (E.contents err.old) (E.contents err.new))) ⊎ ((verdict : Verdict) × IsVerdict held lid.now verdict × Finishes (build_report fuel verdict) result (outputs (O.contents out.old) (O.contents out.new) (E.contents err.old) (E.contents err.new)))) }
     ensures refused { result ≡ 2 → Refuses (F.misses files.old) (F.misses files.new) (outputs (O.contents out.old) (O.contents out.new) (E.contents err.old) (E.contents err.new)) }
     ensures accepted { result ≢ 3 }
     ensures failed { result ≡ 4 → Rose (F.faults files.old) (F.faults files.new) }
@@ -165,9 +159,9 @@ pub fn run_words<F: Files, O: Sink, E: Sink>(
 ) -> u8
     // Where nothing fails, the status and what was sent are those of the words' outcome.
     ensures outcome { (held : FileMap) → F.contents files.old ≡ Some held → Stood (F.faults files.old) (F.faults files.new) → Stood (O.faults out.old) (O.faults out.new) → Stood (E.faults err.old) (E.faults err.new) → result ≢ 6
-        → Done (outcome (map string_bytes words.now.items) held) result (outputs (O.contents out.old) (O.contents out.new) (E.contents err.old) (E.contents err.new)) }
+        → (report : Report) × IsOutcome (map string_bytes words.now.items) held report × Done report result (outputs (O.contents out.old) (O.contents out.new) (E.contents err.old) (E.contents err.new)) }
     ensures cut_short { (held : FileMap) → F.contents files.old ≡ Some held → (result ≡ 5) ⊎ (result ≡ 6)
-        → SentFront (outcome (map string_bytes words.now.items) held) (outputs (O.contents out.old) (O.contents out.new) (E.contents err.old) (E.contents err.new)) }
+        → Nothing (outputs (O.contents out.old) (O.contents out.new) (E.contents err.old) (E.contents err.new)) ⊎ ((report : Report) × IsOutcome (map string_bytes words.now.items) held report × SentFront report (outputs (O.contents out.old) (O.contents out.new) (E.contents err.old) (E.contents err.new))) }
 
     // Each status has its cause, whatever the files tell.
     ensures refused { result ≡ 2 → Refuses (F.misses files.old) (F.misses files.new) (outputs (O.contents out.old) (O.contents out.new) (E.contents err.old) (E.contents err.new)) }
@@ -186,17 +180,8 @@ pub fn run_words<F: Files, O: Sink, E: Sink>(
     ensures out_faults { O.faults out.old ≤ O.faults out.new }
     ensures err_faults { E.faults err.old ≤ E.faults err.new }
 
-    // What the outcome reads in a file is exactly what the file's text stands for.
-    ensures lids { (text : List ℕ) (lid : Lid) → (lid_of text ≡ Some lid) ↔ IsLid text lid }
-    ensures texts { (text : List ℕ) (forms : List FormTree) → (reading_of text ≡ record { forms = forms; fault = None }) ↔ IsText text forms }
-    ensures faulty_texts { (text : List ℕ) (forms : List FormTree) (left : ℕ) → (reading_of text ≡ record { forms = forms; fault = Some left }) ↔ IsFaulty text forms left }
-
-    // The body is the end of its text, so that as much is left of both, and a place is told by what stands before it.
-    ensures bodies { (text name body : List ℕ) → body_of text name ≡ Some body → (front : List ℕ) × (text ≡ front ++ body) }
-    ensures places { (front rest : List ℕ) → point_at (front ++ rest) (length rest) ≡ point_behind front }
-
-    // The names that are judged are those of the form.
-    ensures names { (form : FormTree) (spots : List Spot) → Fits form (bare spots) → map use_of (uses (behind_head form spots)) ≡ form_uses form }
+    // A place is told by what stands before it.
+    ensures places { (front rest : List ℕ) → point_at (front ++ rest) (length front) ≡ point_behind front }
 {
     match build_words(words) {
         Some(BuildCommand { fuel, lid }) => build(alloc, lid, fuel, files, out, err),

@@ -2,12 +2,11 @@
 #![tactic(auto)]
 
 mod command;
-mod layout;
+mod names;
 mod point;
 mod refused;
 mod run;
 mod source;
-mod text;
 mod words;
 
 pub use command::run_words;

@@ -35,9 +35,9 @@ fn point_behind(bytes: &[u8]) -> Point
     point
 }
 
-/// The place in a text whose lines end with LF where so many of its bytes are left.
-pub(crate) fn point_at(text: &[u8], left: usize) -> Point
-    ensures { result ≡ point_at text.now left }
+/// The place at this offset of a text, or its end where the text is shorter.
+pub(crate) fn point_at(text: &[u8], offset: usize) -> Point
+    ensures { result ≡ point_at text.now offset }
 {
-    point_behind(&text[..text.len().saturating_sub(left)])
+    point_behind(&text[..text.len().min(offset)])
 }

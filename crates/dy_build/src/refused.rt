@@ -1,10 +1,11 @@
 //! What a refusal shows, and the other lines of a command.
 
 ghost use Rattle.std.specs.Prelude.{◌≡◌, [], ◌∷◌, ◌++◌, IfOk, OnOk, decimal};
-ghost use Rattle.dy_build.specs.Refusals.{kind_text, position_text, spaced, shown_text, refusal_line, no_file, syntax, no_binding};
+ghost use Rattle.dy_build.specs.Points.{point_at};
+ghost use Rattle.dy_build.specs.Refusals.{kind_text, position_text, spaced, shown_text, refusal_line, no_file, position_at, syntax};
 ghost use Rattle.dy_build.specs.Lines.{file_fault_line, unhandled_line, out_of_fuel_line};
 
-use crate::point::Point;
+use crate::point::{Point, point_at};
 use dy_base::{Items, Kind, Text};
 use itoa::Buffer;
 use std::alloc::{AllocError, Global};
@@ -47,30 +48,6 @@ impl Refused {
         })
     }
 
-    /// The name at this place has no binding.
-    pub(crate) fn no_binding(
-        alloc: Global,
-        subject: &[u8],
-        file: &[u8],
-        point: Point,
-        name: Text,
-    ) -> Result<Refused, AllocError>
-        ensures { IfOk result (λ refused. refused ≡ no_binding subject.now file.now point name) }
-    {
-        let mut shown = Items::new(alloc);
-        shown.push(name)?;
-        Ok(Refused {
-            kind: Kind::Unbound,
-            subject: Text::of(alloc, subject)?,
-            position: Some(Position {
-                file: Text::of(alloc, file)?,
-                line: point.line,
-                column: point.column,
-            }),
-            shown,
-        })
-    }
-
     /// At this place a file is not in the grammar.
     pub(crate) fn syntax(
         alloc: Global,
@@ -91,6 +68,23 @@ impl Refused {
             shown: Items::new(alloc),
         })
     }
+}
+
+/// Where a fault of a file stands.
+pub(crate) fn position_at(
+    alloc: Global,
+    file: &[u8],
+    text: &[u8],
+    offset: u32,
+) -> Result<Position, AllocError>
+    ensures { IfOk result (λ position. position ≡ position_at file.now (point_at text.now offset)) }
+{
+    let point = point_at(text, offset as usize);
+    Ok(Position {
+        file: Text::of(alloc, file)?,
+        line: point.line,
+        column: point.column,
+    })
 }
 
 fn push_number(line: &mut Vec<u8>, number: u64) -> Result<(), AllocError>

@@ -1,26 +1,22 @@
 //! The sources of a library, read and judged.
 
-ghost use Rattle.std.specs.Prelude.{◌≡◌, ◌≤◌, IfOk, IfErr, Some, IsTrue};
+ghost use Rattle.std.specs.Prelude.{◌≡◌, ◌≢◌, ◌≤◌, IfOk, IfErr, Some, IsTrue, length};
 ghost use Rattle.dy_io.specs.Causes.{Rose};
 ghost use Rattle.dy_io.specs.Files.{FileMap};
-ghost use Rattle.dy_build.specs.Layout.{is_file_name};
+ghost use Rattle.dy_build.specs.Layout.{file_limit, is_file_name};
 ghost use Rattle.dy_build.specs.Points.{start};
 ghost use Rattle.dy_build.specs.Refusals.{syntax};
-ghost use Rattle.dy_build.specs.Parts.{seen_parts};
-ghost use Rattle.dy_build.specs.Outcome.{source_of, source_at, judged_spots, judged_forms, is_library_source, judged_parts, verdict};
-ghost use Rattle.dy_build.specs.Judged.{seen_source, Interrupts, Fails, Misses, Judges, IsPlain};
+ghost use Rattle.dy_build.specs.Outcome.{source_of, source_at, file_of, file_at, position_of, located, JudgesTexts, JudgesFiles, JudgesNamed, JudgesNames, JudgesLid, IsVerdict};
+ghost use Rattle.dy_build.specs.Judged.{seen_source, IsWithin, Interrupts, Fails, Misses, Judged, IsPlain};
 
-use crate::layout::{LidParts, body_of, is_library_file, read_lid, source_name, with_line_feeds};
-use crate::point::{point_at, start};
-use crate::refused::Refused;
-use crate::text::lexing::spots_of;
-use crate::text::names::{Finding, file_found, methods_of};
-use crate::text::reading::read_spots;
-use crate::text::token::Spot;
-use crate::text::translate::program_of;
-use dy_base::Text;
+use crate::names::{is_file_name, source_name};
+use crate::point::start;
+use crate::refused::{Position, Refused, position_at};
+use dy_base::{Fault, Place, Refusal, Text};
 use dy_io::{Files, Found, ReadFail};
+use dy_lexer::{Lid, read_lid};
 use dy_runnable::Program;
+use dy_sources::judge;
 use std::alloc::{AllocError, Global};
 
 /// A file has at most so many bytes.
@@ -31,7 +27,6 @@ pub(crate) const FILE_LIMIT: usize = 4_194_304;
 pub(crate) enum Source {
     Absent,
     TooLong,
-    /// Its text, whose lines end with LF.
     Text(Vec<u8>),
 }
 
@@ -55,20 +50,22 @@ impl From<AllocError> for Halt {
     }
 }
 
-/// The text of a file's bytes, of which one more than the limit was read at most.
-fn text_of(alloc: Global, bytes: &[u8]) -> Result<Source, AllocError>
-    ensures { IfOk result (λ source. seen_source source ≡ source_of (Some bytes.now)) }
+/// The source of a file's bytes, of which one more than the limit was read at most.
+fn source_of(bytes: Vec<u8>) -> Source
+    ensures source { seen_source result ≡ source_of (Some bytes.items) }
+    ensures within { IsWithin result }
 {
     if bytes.len() <= FILE_LIMIT {
-        Ok(Source::Text(with_line_feeds(alloc, bytes)?))
+        Source::Text(bytes)
     } else {
-        Ok(Source::TooLong)
+        Source::TooLong
     }
 }
 
 /// Reads a source file.
 fn read_source<F: Files>(alloc: Global, files: &mut F, name: &str) -> Result<Source, Halt>
     ensures source { (held : FileMap) → F.contents files.old ≡ Some held → IfOk result (λ source. seen_source source ≡ source_at held name.now) }
+    ensures within { IfOk result IsWithin }
     ensures missed { IfOk result (λ source. source ≡ Source.Absent → Rose (F.misses files.old) (F.misses files.new)) }
     ensures failed { IfErr result (Interrupts (F.faults files.old) (F.faults files.new)) }
     ensures contents { F.contents files.new ≡ F.contents files.old }
@@ -77,89 +74,147 @@ fn read_source<F: Files>(alloc: Global, files: &mut F, name: &str) -> Result<Sou
 {
     let mut bytes = Vec::new(alloc);
     match files.read(alloc, name, FILE_LIMIT as u64 + 1, &mut bytes) {
-        Ok(Found::Here) => Ok(text_of(alloc, &bytes)?),
+        Ok(Found::Here) => Ok(source_of(bytes)),
         Ok(Found::Absent) => Ok(Source::Absent),
         Err(ReadFail::Failed) => Err(Halt::FileFault(Text::of(alloc, name.as_bytes())?)),
         Err(ReadFail::Memory) => Err(Halt::Memory),
     }
 }
 
-/// The program of a library whose second file is this text, of whose body these are the tokens.
-#[tactic(auto, using(crate::proofs::Findings::file_is))]
-fn spots_program(
+/// A file that was read: its name, and its text.
+#[derive(Clone, Copy, Debug)]
+struct File<'a> {
+    name: &'a [u8],
+    text: &'a [u8],
+}
+
+/// The file of this number, 0 or 1.
+fn file_at<'a>(first: File<'a>, second: File<'a>, number: u32) -> File<'a>
+    ensures { file_of result ≡ file_at (file_of first.entry) (file_of second.entry) number }
+{
+    if number == 0 { first } else { second }
+}
+
+/// Where a fault stands, as a user counts.
+fn position_of(
+    alloc: Global,
+    first: File<'_>,
+    second: File<'_>,
+    place: Option<Place>,
+) -> Result<Option<Position>, AllocError>
+    ensures { IfOk result (λ position. position ≡ position_of (file_of first.entry) (file_of second.entry) place) }
+{
+    match place {
+        Some(place) => {
+            let file = file_at(first, second, place.file);
+            Ok(Some(position_at(alloc, file.name, file.text, place.offset)?))
+        }
+        None => Ok(None),
+    }
+}
+
+/// A fault with its subject and its place as a user counts. Its file has number 0 or 1.
+fn located(
+    alloc: Global,
+    subject: &[u8],
+    first: File<'_>,
+    second: File<'_>,
+    fault: Fault,
+) -> Result<Refused, AllocError>
+    ensures { IfOk result (λ why. why ≡ located subject.now (file_of first.entry) (file_of second.entry) fault) }
+{
+    let Fault {
+        kind,
+        library: _,
+        place,
+        shown,
+        numbers: _,
+    } = fault;
+    let position = position_of(alloc, first, second, place)?;
+    Ok(Refused {
+        kind,
+        subject: Text::of(alloc, subject)?,
+        position,
+        shown,
+    })
+}
+
+/// The program of a library whose files are these.
+fn texts_program(
     alloc: Global,
     library: &[u8],
-    file: &[u8],
-    text: &[u8],
-    spots: &[Spot],
+    first: File<'_>,
+    second: File<'_>,
 ) -> Result<Program, Halt>
-    ensures verdict { Judges result (judged_spots library.now file.now text.now spots.now) }
+    requires first { length first.text.now ≤ file_limit }
+    requires second { length second.text.now ≤ file_limit }
+    ensures verdict { Judged (JudgesTexts library.now (file_of first.entry) (file_of second.entry)) result }
     ensures refused { IfErr result IsPlain }
 {
-    let reading = read_spots(alloc, spots)?;
-    let methods = methods_of(alloc, &reading.forms)?;
-    let found = file_found(alloc, &methods, &reading, spots)?;
-    match found {
-        Finding::Fine => Ok(program_of(alloc, library, &methods, &reading.forms)?),
-        Finding::Unbound(name, left) => {
-            let point = point_at(text, left);
-            Err(Halt::Refused(Refused::no_binding(alloc, library, file, point, name)?))
-        }
-        Finding::Unfit(left) => {
-            let point = point_at(text, left);
-            Err(Halt::Refused(Refused::syntax(alloc, library, file, point)?))
-        }
+    match judge(alloc, library, first.text, second.text) {
+        Ok(program) => Ok(program),
+        Err(Refusal::Fault(fault)) => Err(Halt::Refused(located(
+            alloc, library, first, second, fault,
+        )?)),
+        Err(Refusal::Memory) => Err(Halt::Memory),
     }
 }
 
-/// The program of a library whose second file is this source.
-fn forms_program(
+/// The program of a library whose files of these names are these sources, of which none is absent.
+fn sources_program(
     alloc: Global,
     library: &[u8],
-    file: &[u8],
-    source: &Source,
+    first_name: &[u8],
+    second_name: &[u8],
+    first: &Source,
+    second: &Source,
 ) -> Result<Program, Halt>
-    ensures verdict { Judges result (judged_forms library.now file.now (seen_source source.now)) }
+    requires first { IsWithin first.now }
+    requires second { IsWithin second.now }
+    requires first_here { first.now ≢ Source.Absent }
+    requires second_here { second.now ≢ Source.Absent }
+    ensures verdict { Judged (JudgesFiles library.now first_name.now second_name.now (seen_source first.now) (seen_source second.now)) result }
     ensures refused { IfErr result IsPlain }
 {
-    if let Source::Text(text) = source {
-        if let Some(body) = body_of(text, library) {
-            let spots = spots_of(alloc, body)?;
-            return spots_program(alloc, library, file, text, &spots);
-        }
-    }
-    Err(Halt::Refused(Refused::syntax(alloc, library, file, start())?))
+    let Source::Text(first) = first else {
+        let why = Refused::syntax(alloc, library, first_name, start())?;
+        return Err(Halt::Refused(why));
+    };
+    let Source::Text(second) = second else {
+        let why = Refused::syntax(alloc, library, second_name, start())?;
+        return Err(Halt::Refused(why));
+    };
+    let first = File {
+        name: first_name,
+        text: first,
+    };
+    let second = File {
+        name: second_name,
+        text: second,
+    };
+    texts_program(alloc, library, first, second)
 }
 
-/// Whether the first file of a library is as it is to be.
-fn is_library_source(source: &Source, library: &[u8]) -> bool
-    ensures { result ≡ is_library_source (seen_source source.now) library.now }
-{
-    match source {
-        Source::Text(text) => is_library_file(text, library),
-        Source::Absent | Source::TooLong => false,
-    }
-}
-
-/// The program of a library whose LID file has these parts.
-fn parts_program<F: Files>(
+/// The program of a library whose LID file names these files.
+fn named_program<F: Files>(
     alloc: Global,
     files: &mut F,
     lid: &str,
-    parts: &LidParts<'_>,
+    library: &[u8],
+    first: &[u8],
+    second: &[u8],
 ) -> Result<Program, Halt>
-    requires first { IsTrue (is_file_name parts.now.first.now) }
-    requires second { IsTrue (is_file_name parts.now.second.now) }
-    ensures verdict { (held : FileMap) → F.contents files.old ≡ Some held → Judges result (judged_parts held lid.now (Some (seen_parts parts.now))) }
+    requires first { IsTrue (is_file_name first.now) }
+    requires second { IsTrue (is_file_name second.now) }
+    ensures verdict { (held : FileMap) → F.contents files.old ≡ Some held → Judged (JudgesNamed held lid.now library.now first.now second.now) result }
     ensures missed { IfErr result (Misses (F.misses files.old) (F.misses files.new)) }
     ensures failed { IfErr result (Fails (F.faults files.old) (F.faults files.new)) }
     ensures contents { F.contents files.new ≡ F.contents files.old }
     ensures misses { F.misses files.old ≤ F.misses files.new }
     ensures faults { F.faults files.old ≤ F.faults files.new }
 {
-    let library = parts.library;
-    let first_name = source_name(alloc, lid, parts.first)?;
-    let second_name = source_name(alloc, lid, parts.second)?;
+    let first_name = source_name(alloc, lid, first)?;
+    let second_name = source_name(alloc, lid, second)?;
     let first = read_source(alloc, files, first_name.as_str())?;
     if let Source::Absent = first {
         let why = Refused::no_file(alloc, library, first_name.as_bytes())?;
@@ -170,12 +225,14 @@ fn parts_program<F: Files>(
         let why = Refused::no_file(alloc, library, second_name.as_bytes())?;
         return Err(Halt::Refused(why));
     }
-    if is_library_source(&first, library) {
-        forms_program(alloc, library, second_name.as_bytes(), &second)
-    } else {
-        let why = Refused::syntax(alloc, library, first_name.as_bytes(), start())?;
-        Err(Halt::Refused(why))
-    }
+    sources_program(
+        alloc,
+        library,
+        first_name.as_bytes(),
+        second_name.as_bytes(),
+        &first,
+        &second,
+    )
 }
 
 /// A LID file is out of form. Its own name is the subject, since no library is known.
@@ -185,6 +242,60 @@ fn lid_fault(alloc: Global, lid: &[u8]) -> Result<Refused, AllocError>
     Refused::syntax(alloc, lid, lid, start())
 }
 
+/// The program of a LID file that says this: it is to name two files.
+fn library_program<F: Files>(
+    alloc: Global,
+    files: &mut F,
+    lid: &str,
+    found: &Lid,
+) -> Result<Program, Halt>
+    ensures verdict { (held : FileMap) → F.contents files.old ≡ Some held → Judged (JudgesNames held lid.now found.now.library found.now.files) result }
+    ensures missed { IfErr result (Misses (F.misses files.old) (F.misses files.new)) }
+    ensures failed { IfErr result (Fails (F.faults files.old) (F.faults files.new)) }
+    ensures contents { F.contents files.new ≡ F.contents files.old }
+    ensures misses { F.misses files.old ≤ F.misses files.new }
+    ensures faults { F.faults files.old ≤ F.faults files.new }
+{
+    let names = found.files.as_slice();
+    if names.len() == 2 {
+        let first = names[0].bytes();
+        let second = names[1].bytes();
+        if is_file_name(first) && is_file_name(second) {
+            return named_program(alloc, files, lid, found.library.bytes(), first, second);
+        }
+    }
+    Err(Halt::Refused(lid_fault(alloc, lid.as_bytes())?))
+}
+
+/// The program of a LID file of this text.
+fn lid_program<F: Files>(
+    alloc: Global,
+    files: &mut F,
+    lid: &str,
+    text: &[u8],
+) -> Result<Program, Halt>
+    requires { length text.now ≤ file_limit }
+    ensures verdict { (held : FileMap) → F.contents files.old ≡ Some held → Judged (JudgesLid held lid.now text.now) result }
+    ensures missed { IfErr result (Misses (F.misses files.old) (F.misses files.new)) }
+    ensures failed { IfErr result (Fails (F.faults files.old) (F.faults files.new)) }
+    ensures contents { F.contents files.new ≡ F.contents files.old }
+    ensures misses { F.misses files.old ≤ F.misses files.new }
+    ensures faults { F.faults files.old ≤ F.faults files.new }
+{
+    match read_lid(alloc, text) {
+        Ok(found) => library_program(alloc, files, lid, &found),
+        Err(Refusal::Fault(fault)) => {
+            let file = File {
+                name: lid.as_bytes(),
+                text,
+            };
+            let why = located(alloc, lid.as_bytes(), file, file, fault)?;
+            Err(Halt::Refused(why))
+        }
+        Err(Refusal::Memory) => Err(Halt::Memory),
+    }
+}
+
 /// The program of the library of a LID file, or why there is none: an absent file is told before a
 /// file that is out of form, and the LID file before its sources.
 pub(crate) fn read_program<F: Files>(
@@ -192,7 +303,7 @@ pub(crate) fn read_program<F: Files>(
     files: &mut F,
     lid: &str,
 ) -> Result<Program, Halt>
-    ensures verdict { (held : FileMap) → F.contents files.old ≡ Some held → Judges result (verdict held lid.now) }
+    ensures verdict { (held : FileMap) → F.contents files.old ≡ Some held → Judged (IsVerdict held lid.now) result }
     ensures missed { IfErr result (Misses (F.misses files.old) (F.misses files.new)) }
     ensures failed { IfErr result (Fails (F.faults files.old) (F.faults files.new)) }
     ensures contents { F.contents files.new ≡ F.contents files.old }
@@ -205,9 +316,6 @@ pub(crate) fn read_program<F: Files>(
             Err(Halt::Refused(why))
         }
         Source::TooLong => Err(Halt::Refused(lid_fault(alloc, lid.as_bytes())?)),
-        Source::Text(text) => match read_lid(&text) {
-            Some(parts) => parts_program(alloc, files, lid, &parts),
-            None => Err(Halt::Refused(lid_fault(alloc, lid.as_bytes())?)),
-        },
+        Source::Text(text) => lid_program(alloc, files, lid, &text),
     }
 }

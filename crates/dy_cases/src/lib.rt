@@ -7,6 +7,8 @@ mod cores;
 #[cfg(test)]
 mod grammar;
 #[cfg(test)]
+mod kinds;
+#[cfg(test)]
 mod places;
 #[cfg(test)]
 mod tests;

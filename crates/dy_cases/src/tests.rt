@@ -95,7 +95,7 @@ pub(crate) fn sum_of_ones(rt: &(impl AllocGlobal + Abort), count: usize) -> Resu
     Ok(text)
 }
 
-static PRINTED: [(&[u8], u8, &[u8], &[u8]); 9] = [
+static PRINTED: [(&[u8], u8, &[u8], &[u8]); 16] = [
     (b"format-out(\"%d\\n\", 6 * 7);\n", 0, b"42\n", b""),
     (b"", 0, b"", b""),
     (b"\n  \r\n", 0, b"", b""),
@@ -125,6 +125,35 @@ static PRINTED: [(&[u8], u8, &[u8], &[u8]); 9] = [
         b"unhandled <simple-error>: integer overflow\n",
     ),
     (b"format-out ( \"%d\\n\" , 007 )", 0, b"7\n", b""),
+    // Texts with other directives, comments, and strings side by side.
+    (b"format-out(\"%d\", 1)", 0, b"1", b""),
+    (b"format-out(\"\")", 0, b"", b""),
+    (
+        b"format-out(\"100%% of %d are %d\\n\", 6 * 7, 42);",
+        0,
+        b"100% of 42 are 42\n",
+        b"",
+    ),
+    (
+        b"/* a /* b */ c */ format-out(\"\\<41>b\" \"c\\n\");",
+        0,
+        b"Abc\n",
+        b"",
+    ),
+    (b"// nothing\n", 0, b"", b""),
+    (
+        b"format-out(\"%d\\n\",\r1); // one\n\tformat-out(\"%d\\n\", 2);\r",
+        0,
+        b"1\n2\n",
+        b"",
+    ),
+    // Names ignore case, and a minus before digits is a literal's.
+    (
+        b"define method F (n) N + -2 end method f; Format-Out(\"%d\\n\", f(1));",
+        0,
+        b"-1\n",
+        b"",
+    ),
 ];
 
 #[test]
@@ -201,9 +230,9 @@ static CHANGES: [(&str, &[u8], u8, &[u8]); 9] = [
     ),
     (
         "a/b.lid",
-        b"library: method\nfiles: one\n two\n",
+        b"library: b\nfiles: one\n two\nother\n",
         2,
-        b"refused a/b.lid: 17 Syntax at a/b.lid:1:1\n",
+        b"refused a/b.lid: 6 BadHeader at a/b.lid:4:1\n",
     ),
     (
         "a/b.lid",

@@ -1,8 +1,8 @@
 //! Texts with directives.
 
-ghost use Rattle.std.specs.Prelude.{◌≡◌, ◌<◌, ◌≤◌, IfOk, length, option_copied};
+ghost use Rattle.std.specs.Prelude.{◌≡◌, ◌≤◌, IfOk, length};
 ghost use Rattle.dy_build.specs.Meaning.{formatted};
-ghost use Rattle.dy_build.specs.Results.{seen_formatted, after_letter, next_number, seen_next};
+ghost use Rattle.dy_build.specs.Results.{seen_formatted, next_number, seen_next};
 
 use crate::run::value::Value;
 use itoa::Buffer;
@@ -27,17 +27,7 @@ fn next_number<'a>(arguments: &'a [Value]) -> Option<(i64, &'a [Value])>
     }
 }
 
-/// What follows the letter of a directive, where that is `d`.
-fn after_letter(text: &[u8]) -> Option<&[u8]>
-    ensures { option_copied result ≡ after_letter text.now }
-{
-    match text {
-        [b'd', after @ ..] => Some(after),
-        _ => None,
-    }
-}
-
-/// The text with each directive `%d` replaced by the next argument (DRM 12, "format").
+/// The text with each directive `%d` replaced by the next argument, and `%%` by one `%` (DRM 12, "format").
 pub(crate) fn format(
     alloc: Global,
     text: &[u8],
@@ -51,16 +41,22 @@ pub(crate) fn format(
     let mut left = arguments;
     while let Some((byte, after)) = rest.split_first() {
         if *byte == b'%' {
-            let Some(after) = after_letter(after) else {
+            let Some((letter, behind)) = after.split_first() else {
                 return Ok(Formatted::Failed("format directive"));
             };
-            let Some((value, others)) = next_number(left) else {
+            if *letter == b'd' {
+                let Some((value, others)) = next_number(left) else {
+                    return Ok(Formatted::Failed("format directive"));
+                };
+                piece.extend_from_slice(Buffer::new().format(value).as_bytes())?;
+                printed += 1;
+                left = others;
+            } else if *letter == b'%' {
+                piece.push(b'%')?;
+            } else {
                 return Ok(Formatted::Failed("format directive"));
-            };
-            piece.extend_from_slice(Buffer::new().format(value).as_bytes())?;
-            printed += 1;
-            rest = after;
-            left = others;
+            }
+            rest = behind;
         } else {
             piece.push(*byte)?;
             rest = after;

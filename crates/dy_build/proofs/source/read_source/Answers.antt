@@ -7,7 +7,7 @@ pub returns-in-Ok-Here-clause-source : goal.returns-in-Ok-Here-clause-source
 returns-in-Ok-Here-clause-source g c = λ held told.
     let answers = rw told at (rw c.in-Ok-Here.field-0-is at c.in-Ok-Here.ensures.answers) in
     let (bytes, got, read) = answers in
-    c.in_ok-text_of-in-Ok-Here.ensures
-    ∙ ap (λ (bs : List ℕ). source_of (Some bs)) (c.deref.ensures.value ∙ read ∙ ap (λ (bs : List ℕ). bs ++ take 4194305 bytes) c.new-bytes.ensures.items)
+    c.source_of.ensures.source
+    ∙ ap (λ (bs : List ℕ). source_of (Some bs)) (read ∙ ap (λ (bs : List ℕ). bs ++ take 4194305 bytes) c.new-bytes.ensures.items)
     ∙ source_of-front bytes
     ∙ sym (ap source_of got)

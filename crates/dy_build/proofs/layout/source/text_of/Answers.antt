@@ -1,5 +1,0 @@
-use Rattle.dy_build.proofs.Names.{IsUtf8-file_name}
-use Rattle.dy_build.proofs.layout.source.text_of.Goals as goal
-
-pub unreachable-requires : goal.unreachable-requires
-unreachable-requires c = c.in-Err.ensures.cases.0 (IsUtf8-file_name c.args.file.now c.requires)

@@ -1,0 +1,6 @@
+pub mod Adding
+pub mod Cutting
+pub mod Reading
+pub mod PlainTokens
+pub mod PlainForms
+pub mod Verdicts

@@ -1,0 +1,6 @@
+pub mod Groups
+pub mod Terms
+pub mod Calls
+pub mod Libraries
+pub mod Numbered
+pub mod Findings

@@ -1,0 +1,9 @@
+pub mod Forms
+pub mod Operators
+pub mod Taken
+pub mod Directives
+pub mod Comparisons
+pub mod Cores
+pub mod Names
+pub mod Findings
+pub mod Terms
