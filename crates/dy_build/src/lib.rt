@@ -2,6 +2,7 @@
 #![tactic(auto)]
 
 mod command;
+mod laws;
 mod names;
 mod point;
 mod refused;
@@ -10,3 +11,4 @@ mod source;
 mod words;
 
 pub use command::run_words;
+pub use laws::outcome_laws;

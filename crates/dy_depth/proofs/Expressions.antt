@@ -27,7 +27,7 @@ found_same found = (option_twice capped tree_twice found.tree, option_twice (map
 pub fragment_same : (words : Splitting) (state rest : State) (fragment : SeenFragment) (found other : Found) → changed_state capping state ≡ changed_state capping rest → SameFound found other
     → option_map (changed_state capping) (after_fragment words state fragment found) ≡ option_map (changed_state capping) (after_fragment words rest fragment other)
 fragment_same words state rest (one token) found other e f = token_same words state rest token e
-fragment_same words state rest (group opener inner closer) found other e (f, g) = group_same state rest (bracket_of opener closer) found.tree other.tree found.passed other.passed e f g
+fragment_same words state rest (group opener inner closer) found other e (f, g) = group_same state rest opener (bracket_of opener closer) found.tree other.tree found.passed other.passed e f g
 
 -- these two lead to the same
 abbrev pub SameItem : Splitting → Item → Item → Type 0

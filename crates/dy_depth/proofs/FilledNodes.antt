@@ -32,8 +32,8 @@ filled_unary operator operand le = part_filled (filled_parts.one (λ (part : Tre
 pub filled_call : (function : Tree) (arguments : Arguments) → depth (call (filled function) (changed_arguments filling arguments)) ≤ depth_limit → call (filled function) (changed_arguments filling arguments) ≡ call function arguments
 filled_call function arguments le = part_filled (filled_parts.two (λ (first : Tree) (second : Arguments). call first second) (filled_parts.tree function) (related_arguments filled_parts arguments)) (omega arith)
 
-pub filled_element : (object : Tree) (index : Tree) → depth (element (filled object) (filled index)) ≤ depth_limit → element (filled object) (filled index) ≡ element object index
-filled_element object index le = part_filled (filled_parts.two (λ (first : Tree) (second : Tree). element first second) (filled_parts.tree object) (filled_parts.tree index)) (omega arith)
+pub filled_element : (object : Tree) (opener : Token) (index : Tree) → depth (element (filled object) opener (filled index)) ≤ depth_limit → element (filled object) opener (filled index) ≡ element object opener index
+filled_element object opener index le = part_filled (filled_parts.two (λ (first : Tree) (second : Tree). element first opener second) (filled_parts.tree object) (filled_parts.tree index)) (omega arith)
 
 pub filled_member : (object : Tree) (token : Token) → depth (member (filled object) token) ≤ depth_limit → member (filled object) token ≡ member object token
 filled_member object token le = part_filled (filled_parts.one (λ (part : Tree). member part token) (filled_parts.tree object)) (omega arith)

@@ -24,6 +24,6 @@ module _ (parts : Parts) where
   related_form (constant_form define target assigned) = whole 1 _ _ _ _ refl refl (parts.two (constant_form define) (related_target parts target) (parts.tree assigned))
   related_form (variable_form define target assigned) = whole 1 _ _ _ _ refl refl (parts.two (variable_form define) (related_target parts target) (parts.tree assigned))
   related_form (generic_form define adjectives token signature) = whole 1 _ _ _ _ refl refl (parts.one (generic_form define adjectives token) (related_parameters parts signature))
-  related_form (method_form define adjectives token signature body) = whole 1 _ _ _ _ refl refl (parts.two (method_form define adjectives token) (related_parameters parts signature) (related_body parts body))
+  related_form (method_form define adjectives word token signature body) = whole 1 _ _ _ _ refl refl (parts.two (method_form define adjectives word token) (related_parameters parts signature) (related_body parts body))
   related_form (function_form define adjectives token signature body) = whole 1 _ _ _ _ refl refl (parts.two (function_form define adjectives token) (related_parameters parts signature) (related_body parts body))
   related_form (domain_form define token types) = whole 1 _ _ _ _ refl refl (parts.one (domain_form define token) (related_domain parts types))

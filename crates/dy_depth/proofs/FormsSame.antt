@@ -72,28 +72,28 @@ class_same define adjectives (item ∷ rest) = class_at_same define adjectives i
 -- methods and functions
 
 module _ (entry other : NamedFound) (same : changed_named capping entry ≡ changed_named capping other) where
-  pub method_of_form_same : (define : Token) (adjectives : List Token) → changed_form capping (method_of_form define adjectives entry) ≡ changed_form capping (method_of_form define adjectives other)
-  method_of_form_same define adjectives = let (signature, body) = method_changed entry.method other.method (ap (λ (n : NamedFound). n.method) same) in cc (ap (λ (n : NamedFound). n.token) same)
+  pub method_of_form_same : (define : Token) (adjectives : List Token) (word : Token) → changed_form capping (method_of_form define adjectives word entry) ≡ changed_form capping (method_of_form define adjectives word other)
+  method_of_form_same define adjectives word = let (signature, body) = method_changed entry.method other.method (ap (λ (n : NamedFound). n.method) same) in cc (ap (λ (n : NamedFound). n.token) same)
 
   pub function_of_form_same : (define : Token) (adjectives : List Token) → changed_form capping (function_of_form define adjectives entry) ≡ changed_form capping (function_of_form define adjectives other)
   function_of_form_same define adjectives = let (signature, body) = method_changed entry.method other.method (ap (λ (n : NamedFound). n.method) same) in cc (ap (λ (n : NamedFound). n.token) same)
 
 -- definitions with an `end`
 
-ended_by_same : (word : DefineWord) (define : Token) (adjectives : List Token) → Reads (changed_form capping) (ended_by word define adjectives)
-ended_by_same class_definition define adjectives rest = if_suits_same (suit_class adjectives) (class_items define adjectives (changed_items capping rest)) (class_items define adjectives rest) (class_same define adjectives rest)
-ended_by_same method_definition define adjectives rest =
-    if_suits_same (suit_method adjectives) (option_map (method_of_form define adjectives) (named_items (changed_items capping rest))) (option_map (method_of_form define adjectives) (named_items rest))
-    (map_same (changed_named capping) (changed_form capping) (method_of_form define adjectives) (method_of_form define adjectives) (named_items (changed_items capping rest)) (named_items rest) (λ entry other e. method_of_form_same entry other e define adjectives)
+ended_by_same : (word : DefineWord) (define : Token) (adjectives : List Token) (token : Token) → Reads (changed_form capping) (ended_by word define adjectives token)
+ended_by_same class_definition define adjectives token rest = if_suits_same (suit_class adjectives) (class_items define adjectives (changed_items capping rest)) (class_items define adjectives rest) (class_same define adjectives rest)
+ended_by_same method_definition define adjectives token rest =
+    if_suits_same (suit_method adjectives) (option_map (method_of_form define adjectives token) (named_items (changed_items capping rest))) (option_map (method_of_form define adjectives token) (named_items rest))
+    (map_same (changed_named capping) (changed_form capping) (method_of_form define adjectives token) (method_of_form define adjectives token) (named_items (changed_items capping rest)) (named_items rest) (λ entry other e. method_of_form_same entry other e define adjectives token)
     (named_same rest))
-ended_by_same function_definition define adjectives rest =
+ended_by_same function_definition define adjectives token rest =
     if_suits_same (suit_function adjectives) (option_map (function_of_form define adjectives) (named_items (changed_items capping rest))) (option_map (function_of_form define adjectives) (named_items rest))
     (map_same (changed_named capping) (changed_form capping) (function_of_form define adjectives) (function_of_form define adjectives) (named_items (changed_items capping rest)) (named_items rest)
     (λ entry other e. function_of_form_same entry other e define adjectives) (named_same rest))
-ended_by_same word define adjectives rest = refl
+ended_by_same word define adjectives token rest = refl
 
 pub ended_same : (define : Token) (front : WordsFront) → SameForm (ended_definition define (changed_words_front capping front)) (ended_definition define front)
-ended_same define front = ended_by_same (define_word_of front.token) define front.adjectives front.rest
+ended_same define front = ended_by_same (define_word_of front.token) define front.adjectives front.token front.rest
 
 -- constants and variables
 

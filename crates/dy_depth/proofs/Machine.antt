@@ -118,11 +118,11 @@ token_same words state other token e = lifted (changed_state capping) (option_ma
 pub brackets_same : (outer rest : Outer) → changed_outer capping outer ≡ changed_outer capping rest → (tree other : Tree) → capped tree ≡ capped other → changed_state capping (in_brackets outer tree) ≡ changed_state capping (in_brackets rest other)
 brackets_same outer rest e tree other f = cc
 
-pub indexed_same : (part rest : Part) → changed_part capping part ≡ changed_part capping rest → (tree other : Tree) → capped tree ≡ capped other → changed_state capping (indexed part tree) ≡ changed_state capping (indexed rest other)
-indexed_same part rest e tree other f =
+pub indexed_same : (part rest : Part) (opener : Token) → changed_part capping part ≡ changed_part capping rest → (tree other : Tree) → capped tree ≡ capped other → changed_state capping (indexed part opener tree) ≡ changed_state capping (indexed rest opener other)
+indexed_same part rest opener e tree other f =
     let first : capped part.0 ≡ capped rest.0 = ap (λ (p : Part). p.0) e in
     let second : changed_outer capping part.1 ≡ changed_outer capping rest.1 = ap (λ (p : Part). p.1) e in
-    cc (same_element part.0 rest.0 tree other first f)
+    cc (same_element part.0 rest.0 opener tree other first f)
 
 pub called_same : (part rest : Part) → changed_part capping part ≡ changed_part capping rest → (passed others : List Argument) → map (changed_argument capping) passed ≡ map (changed_argument capping) others
     → changed_state capping (called part passed) ≡ changed_state capping (called rest others)
@@ -134,11 +134,11 @@ called_same part rest e passed others f =
 abbrev pub SamePassed : Option (List Argument) → Option (List Argument) → Type 0
 SamePassed passed others = option_map (map (changed_argument capping)) passed ≡ option_map (map (changed_argument capping)) others
 
-pub group_behind_same : (part rest : Part) (bracket : Bracket) (tree other : Option Tree) (passed others : Option (List Argument)) → changed_part capping part ≡ changed_part capping rest → option_map capped tree ≡ option_map capped other → SamePassed passed others
-    → option_map (changed_state capping) (group_behind part bracket tree passed) ≡ option_map (changed_state capping) (group_behind rest bracket other others)
-group_behind_same part rest round tree other passed others e f g = map_same (map (changed_argument capping)) (changed_state capping) (called part) (called rest) passed others (called_same part rest e) g
-group_behind_same part rest square tree other passed others e f g = map_same capped (changed_state capping) (indexed part) (indexed rest) tree other (indexed_same part rest e) f
-group_behind_same part rest bracket tree other passed others e f g = refl
+pub group_behind_same : (part rest : Part) (opener : Token) (bracket : Bracket) (tree other : Option Tree) (passed others : Option (List Argument)) → changed_part capping part ≡ changed_part capping rest → option_map capped tree ≡ option_map capped other → SamePassed passed others
+    → option_map (changed_state capping) (group_behind part opener bracket tree passed) ≡ option_map (changed_state capping) (group_behind rest opener bracket other others)
+group_behind_same part rest opener round tree other passed others e f g = map_same (map (changed_argument capping)) (changed_state capping) (called part) (called rest) passed others (called_same part rest e) g
+group_behind_same part rest opener square tree other passed others e f g = map_same capped (changed_state capping) (indexed part opener) (indexed rest opener) tree other (indexed_same part rest opener e) f
+group_behind_same part rest opener bracket tree other passed others e f g = refl
 
 pub group_at_operand_same : (outer rest : Outer) (bracket : Bracket) (tree other : Option Tree) → changed_outer capping outer ≡ changed_outer capping rest → option_map capped tree ≡ option_map capped other
     → option_map (changed_state capping) (group_at_operand outer bracket tree) ≡ option_map (changed_state capping) (group_at_operand rest bracket other)
@@ -155,15 +155,15 @@ group_at_operand_same outer rest bracket tree other e f = go bracket
     go (statement kind) = inner
     go kind = refl
 
-pub group_on : (state : State) (bracket : Bracket) (tree other : Option Tree) (passed others : Option (List Argument)) → option_map capped tree ≡ option_map capped other → SamePassed passed others
-    → option_map (changed_state capping) (at_group (changed_state capping state) bracket tree passed) ≡ option_map (changed_state capping) (at_group state bracket other others)
-group_on (wants outer) bracket tree other passed others e f = group_at_operand_same (changed_outer capping outer) outer bracket tree other (outer_twice outer) e
-group_on (counted digits outer) bracket tree other passed others e f =
-    group_behind_same (literal (positive digits), changed_outer capping outer) (literal (positive digits), outer) bracket tree other passed others (cc (outer_twice outer)) e f
-group_on (has left outer) bracket tree other passed others e f = group_behind_same (capped left, changed_outer capping outer) (left, outer) bracket tree other passed others (has_twice left outer) e f
-group_on (dotted left outer) bracket tree other passed others e f = refl
+pub group_on : (state : State) (opener : Token) (bracket : Bracket) (tree other : Option Tree) (passed others : Option (List Argument)) → option_map capped tree ≡ option_map capped other → SamePassed passed others
+    → option_map (changed_state capping) (at_group (changed_state capping state) opener bracket tree passed) ≡ option_map (changed_state capping) (at_group state opener bracket other others)
+group_on (wants outer) opener bracket tree other passed others e f = group_at_operand_same (changed_outer capping outer) outer bracket tree other (outer_twice outer) e
+group_on (counted digits outer) opener bracket tree other passed others e f =
+    group_behind_same (literal (positive digits), changed_outer capping outer) (literal (positive digits), outer) opener bracket tree other passed others (cc (outer_twice outer)) e f
+group_on (has left outer) opener bracket tree other passed others e f = group_behind_same (capped left, changed_outer capping outer) (left, outer) opener bracket tree other passed others (has_twice left outer) e f
+group_on (dotted left outer) opener bracket tree other passed others e f = refl
 
-pub group_same : (state rest : State) (bracket : Bracket) (tree other : Option Tree) (passed others : Option (List Argument)) → changed_state capping state ≡ changed_state capping rest → option_map capped tree ≡ option_map capped other → SamePassed passed others
-    → option_map (changed_state capping) (at_group state bracket tree passed) ≡ option_map (changed_state capping) (at_group rest bracket other others)
-group_same state rest bracket tree other passed others e f g =
-    sym (group_on state bracket tree tree passed passed refl refl) ∙ ap (λ (s : State). option_map (changed_state capping) (at_group s bracket tree passed)) e ∙ group_on rest bracket tree other passed others f g
+pub group_same : (state rest : State) (opener : Token) (bracket : Bracket) (tree other : Option Tree) (passed others : Option (List Argument)) → changed_state capping state ≡ changed_state capping rest → option_map capped tree ≡ option_map capped other → SamePassed passed others
+    → option_map (changed_state capping) (at_group state opener bracket tree passed) ≡ option_map (changed_state capping) (at_group rest opener bracket other others)
+group_same state rest opener bracket tree other passed others e f g =
+    sym (group_on state opener bracket tree tree passed passed refl refl) ∙ ap (λ (s : State). option_map (changed_state capping) (at_group s opener bracket tree passed)) e ∙ group_on rest opener bracket tree other passed others f g

@@ -72,8 +72,8 @@ capped_unary operator operand = node_capped (caps_one (λ (part : Tree). unary o
 pub capped_call : (function : Tree) (arguments : Arguments) → capped (call (capped function) (changed_arguments capping arguments)) ≡ capped (call function arguments)
 capped_call function arguments = node_capped (caps_two (λ (first : Tree) (second : Arguments). call first second) (caps_tree function) (related_arguments capped_parts arguments)) refl refl
 
-pub capped_element : (object : Tree) (index : Tree) → capped (element (capped object) (capped index)) ≡ capped (element object index)
-capped_element object index = node_capped (caps_two (λ (first : Tree) (second : Tree). element first second) (caps_tree object) (caps_tree index)) refl refl
+pub capped_element : (object : Tree) (opener : Token) (index : Tree) → capped (element (capped object) opener (capped index)) ≡ capped (element object opener index)
+capped_element object opener index = node_capped (caps_two (λ (first : Tree) (second : Tree). element first opener second) (caps_tree object) (caps_tree index)) refl refl
 
 pub capped_member : (object : Tree) (token : Token) → capped (member (capped object) token) ≡ capped (member object token)
 capped_member object token = node_capped (caps_one (λ (part : Tree). member part token) (caps_tree object)) refl refl

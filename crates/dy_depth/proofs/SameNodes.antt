@@ -21,8 +21,8 @@ same_unary operator operand operand' e = cc (capped_unary operator operand, capp
 pub same_call : (function function' : Tree) (arguments arguments' : Arguments) → capped function ≡ capped function' → changed_arguments capping arguments ≡ changed_arguments capping arguments' → capped (call function arguments) ≡ capped (call function' arguments')
 same_call function function' arguments arguments' e1 e2 = cc (capped_call function arguments, capped_call function' arguments')
 
-pub same_element : (object object' : Tree) (index index' : Tree) → capped object ≡ capped object' → capped index ≡ capped index' → capped (element object index) ≡ capped (element object' index')
-same_element object object' index index' e1 e2 = cc (capped_element object index, capped_element object' index')
+pub same_element : (object object' : Tree) (opener : Token) (index index' : Tree) → capped object ≡ capped object' → capped index ≡ capped index' → capped (element object opener index) ≡ capped (element object' opener index')
+same_element object object' opener index index' e1 e2 = cc (capped_element object opener index, capped_element object' opener index')
 
 pub same_member : (object object' : Tree) (token : Token) → capped object ≡ capped object' → capped (member object token) ≡ capped (member object' token)
 same_member object object' token e = cc (capped_member object token, capped_member object' token)

@@ -167,6 +167,6 @@ changed_form change (class_form define adjectives token superclasses slots) = cl
 changed_form change (constant_form define target assigned) = constant_form define (changed_target change target) (change.on_tree assigned)
 changed_form change (variable_form define target assigned) = variable_form define (changed_target change target) (change.on_tree assigned)
 changed_form change (generic_form define adjectives token signature) = generic_form define adjectives token (changed_parameters change signature)
-changed_form change (method_form define adjectives token signature body) = method_form define adjectives token (changed_parameters change signature) (changed_body change body)
+changed_form change (method_form define adjectives word token signature body) = method_form define adjectives word token (changed_parameters change signature) (changed_body change body)
 changed_form change (function_form define adjectives token signature body) = function_form define adjectives token (changed_parameters change signature) (changed_body change body)
 changed_form change (domain_form define token types) = domain_form define token (map change.on_type types)

@@ -10,9 +10,11 @@ use Rattle.dy_tree.specs.declared.expression.BlockClause.{BlockClause}
 use Rattle.dy_tree.specs.declared.expression.BlockClause.TheVariants as blocks
 use Rattle.dy_tree.specs.declared.expression.Item.{Item}
 use Rattle.dy_term.specs.Drafts.{Core, CoreCatch, MaybeCore, nothing, just}
-use Rattle.dy_drafts.specs.Trees.{seen_type}
+use Rattle.dy_syntax.specs.SeenTypes.{seen_type}
 use Rattle.dy_drafts.specs.Shapes.{type_of}
-use Rattle.dy_desugar.specs.Sources.{BlockClauses, clause_and, BlockClauseTree, afterwards_clause, cleanup_clause, exception_clause, seen_clause}
+use Rattle.dy_syntax.specs.Trees as source
+use Rattle.dy_syntax.specs.Trees.{BlockClauses, clause_and, afterwards_clause, cleanup_clause, exception_clause}
+use Rattle.dy_syntax.specs.SeenForms.{seen_clause}
 use Rattle.dy_desugar.specs.Table as table
 use Rattle.dy_desugar.specs.Lists.{body_core, block_clauses, own_afterwards, own_cleanup, own_exception}
 use Rattle.dy_desugar.proofs.Rows.{body_items}
@@ -32,34 +34,34 @@ clause_left : {Y : Type 0} (f : BlockClauses → Y) (clauses : List BlockClause)
     → f (block_clauses (drop i clauses)) ≡ f (clause_and (seen_clause clause) (block_clauses (drop (i + 1) clauses)))
 clause_left f clauses i clause lt is = ap (λ left. f (block_clauses left)) (drop_more clauses i clause lt ∙ ap (λ (one : BlockClause). one ∷ drop (i + 1) clauses) (sym is))
 
-after_this : (first : BlockClauseTree) (rest : BlockClauses) (term : Core) → own_afterwards first ≡ just term → table.afterwards_of (clause_and first rest) ≡ just term
+after_this : (first : source.BlockClause) (rest : BlockClauses) (term : Core) → own_afterwards first ≡ just term → table.afterwards_of (clause_and first rest) ≡ just term
 after_this (afterwards_clause body) rest term found = found
 after_this (cleanup_clause body) rest term found = absurd cc
 after_this (exception_clause variable condition body) rest term found = absurd cc
 
-after_other : (first : BlockClauseTree) (rest : BlockClauses) → own_afterwards first ≡ nothing → table.afterwards_of (clause_and first rest) ≡ table.afterwards_of rest
+after_other : (first : source.BlockClause) (rest : BlockClauses) → own_afterwards first ≡ nothing → table.afterwards_of (clause_and first rest) ≡ table.afterwards_of rest
 after_other (afterwards_clause body) rest none = absurd cc
 after_other (cleanup_clause body) rest none = refl
 after_other (exception_clause variable condition body) rest none = refl
 
-cleans_this : (first : BlockClauseTree) (rest : BlockClauses) (term : Core) → own_cleanup first ≡ just term → table.cleanup_of (clause_and first rest) ≡ just term
+cleans_this : (first : source.BlockClause) (rest : BlockClauses) (term : Core) → own_cleanup first ≡ just term → table.cleanup_of (clause_and first rest) ≡ just term
 cleans_this (afterwards_clause body) rest term found = absurd cc
 cleans_this (cleanup_clause body) rest term found = found
 cleans_this (exception_clause variable condition body) rest term found = absurd cc
 
-cleans_other : (first : BlockClauseTree) (rest : BlockClauses) → own_cleanup first ≡ nothing → table.cleanup_of (clause_and first rest) ≡ table.cleanup_of rest
+cleans_other : (first : source.BlockClause) (rest : BlockClauses) → own_cleanup first ≡ nothing → table.cleanup_of (clause_and first rest) ≡ table.cleanup_of rest
 cleans_other (afterwards_clause body) rest none = refl
 cleans_other (cleanup_clause body) rest none = absurd cc
 cleans_other (exception_clause variable condition body) rest none = refl
 
-catch_this : (first : BlockClauseTree) (rest : BlockClauses) (caught : CoreCatch) → own_exception first ≡ Some caught → table.exceptions_of (clause_and first rest) ≡ caught ∷ table.exceptions_of rest
+catch_this : (first : source.BlockClause) (rest : BlockClauses) (caught : CoreCatch) → own_exception first ≡ Some caught → table.exceptions_of (clause_and first rest) ≡ caught ∷ table.exceptions_of rest
 catch_this (afterwards_clause body) rest caught found = absurd cc
 catch_this (cleanup_clause body) rest caught found = absurd cc
 catch_this (exception_clause variable condition body) rest caught found =
     let same : record { variable = variable; condition = type_of condition; body = table.body_of body } ≡ caught = cc in
     ap (λ (one : CoreCatch). one ∷ table.exceptions_of rest) same
 
-catch_other : (first : BlockClauseTree) (rest : BlockClauses) → own_exception first ≡ None → table.exceptions_of (clause_and first rest) ≡ table.exceptions_of rest
+catch_other : (first : source.BlockClause) (rest : BlockClauses) → own_exception first ≡ None → table.exceptions_of (clause_and first rest) ≡ table.exceptions_of rest
 catch_other (afterwards_clause body) rest none = refl
 catch_other (cleanup_clause body) rest none = refl
 catch_other (exception_clause variable condition body) rest none = absurd cc

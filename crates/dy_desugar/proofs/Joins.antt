@@ -9,14 +9,14 @@ use Rattle.dy_term.specs.Types.{CoreType}
 use Rattle.dy_term.specs.Drafts as core
 use Rattle.dy_term.specs.Drafts.{Core, CoreArm, CoreCatch, CoreClause, CoreLambda, CoreLimit, CoreTest, MaybeCore, cond, choice_of, cores_of, arms_of, catches_of, clauses_of}
 use Rattle.dy_drafts.specs.Parts.{choose, not_core, false_core}
-use Rattle.dy_desugar.specs.Sources.{seen, seen_parameters}
+use Rattle.dy_syntax.specs.SeenForms.{seen_tree, seen_parameters}
 use Rattle.dy_desugar.specs.Table as table
 use Rattle.dy_desugar.specs.Table.{core_of}
 use Rattle.dy_desugar.specs.Lists.{body_core, parameter_defaults, lambda_core}
 
 -- the core of an expression that is held in a box
-pub held_core : (made : Core) (given held : Expression) → made ≡ core_of (seen given) → given ≡ held → made ≡ core_of (seen held)
-held_core made given held e f = e ∙ ap (λ (tree : Expression). core_of (seen tree)) f
+pub held_core : (made : Core) (given held : Expression) → made ≡ core_of (seen_tree given) → given ≡ held → made ≡ core_of (seen_tree held)
+held_core made given held e f = e ∙ ap (λ (tree : Expression). core_of (seen_tree tree)) f
 
 pub call_same : (f g : Core) (a b : List Core) → f ≡ g → a ≡ b → core.call f (cores_of a) ≡ core.call g (cores_of b)
 call_same f g a b e h = ap (λ (x : Core). core.call x (cores_of a)) e ∙ ap (λ (xs : List Core). core.call g (cores_of xs)) h

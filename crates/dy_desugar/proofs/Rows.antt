@@ -11,11 +11,12 @@ use Rattle.dy_tree.specs.declared.expression.Keys.{Keys, Keys', out-Keys, Row_of
 use Rattle.dy_tree.specs.declared.expression.Parameters.{Parameters, Parameters', out-Parameters, Held-Parameters-keys, Parameters-keys-None', Parameters-keys-Some', view-Parameters-keys}
 use Rattle.dy_term.specs.Types.{CoreKey}
 use Rattle.dy_term.specs.Drafts.{Core, CoreItem, CoreArm, CoreClause, CoreLambda}
-use Rattle.dy_drafts.specs.Trees.{seen_required, seen_results, seen_variable}
+use Rattle.dy_syntax.specs.SeenTypes.{seen_required, seen_results, seen_variable}
 use Rattle.dy_drafts.specs.Shapes.{required_of, results_of, key_of}
-use Rattle.dy_desugar.specs.Sources.{BlockClauses, clause_and, seen, seen_arguments, seen_body, seen_alternatives, seen_arms, seen_trees, seen_clauses, seen_clause, seen_for_clauses, seen_for_clause, seen_methods, seen_parameters, seen_maybe_keys, seen_key_row, seen_step, seen_limit, seen_otherwise, seen_test, seen_stop}
+use Rattle.dy_syntax.specs.Trees.{BlockClauses, clause_and, block_clauses_of}
+use Rattle.dy_syntax.specs.SeenForms.{seen_tree, seen_arguments, seen_body, seen_alternatives, seen_arms, seen_tests, seen_clauses, seen_clause, seen_for, seen_for_clause, seen_methods, seen_parameters, seen_maybe_keys, seen_key_row, seen_default, seen_limit, seen_otherwise, seen_test, seen_stop}
 use Rattle.dy_desugar.specs.Table as table
-use Rattle.dy_desugar.specs.Lists.{tree_core, argument_terms, item_core, body_core, otherwise_core, maybe_body, maybe_tree, maybe_boxed, alternative_core, case_core, arm_core, default_core, key_default, key_core, keys_defaults, parameter_defaults, lambda_core, method_core, clauses_in, for_clause_core, bound_core, stop_core}
+use Rattle.dy_desugar.specs.Lists.{tree_core, argument_terms, item_core, body_core, otherwise_core, maybe_body, maybe_tree, maybe_boxed, alternative_core, case_core, arm_core, default_core, key_default, key_core, keys_defaults, parameter_defaults, lambda_core, method_core, for_clause_core, bound_core, stop_core}
 
 pub arguments_items : {m : _} (row : Row_of-Argument m) → table.arguments_of (seen_arguments row) ≡ flat_map argument_terms (items-the_row-Argument m row)
 arguments_items end_of-Argument = refl
@@ -33,7 +34,7 @@ pub alternatives_items : {m : _} (row : Row_of-Alternative m) → table.alternat
 alternatives_items end_of-Alternative = refl
 alternatives_items (more_of-Alternative test shape body rest) = alternatives_more test shape body rest (alternatives_items rest)
 
-pub tests_items : {m : _} (row : Row_of-Expression m) → table.tests_of (seen_trees row) ≡ map tree_core (items-the_row-Expression m row)
+pub tests_items : {m : _} (row : Row_of-Expression m) → table.tests_of (seen_tests row) ≡ map tree_core (items-the_row-Expression m row)
 tests_items end_of-Expression = refl
 tests_items (more_of-Expression first rest) = ap (λ (others : List Core). tree_core first ∷ others) (tests_items rest)
 
@@ -53,11 +54,11 @@ pub arms_items : {m : _} (row : Row_of-Arm m) → table.select_arms (seen_arms r
 arms_items end_of-Arm = refl
 arms_items (more_of-Arm shape tests others body rest) = arms_more shape tests others body rest (arms_items rest)
 
-pub clauses_items : {m : _} (row : Row_of-BlockClause m) → seen_clauses row ≡ clauses_in (map seen_clause (items-the_row-BlockClause m row))
+pub clauses_items : {m : _} (row : Row_of-BlockClause m) → seen_clauses row ≡ block_clauses_of (map seen_clause (items-the_row-BlockClause m row))
 clauses_items end_of-BlockClause = refl
 clauses_items (more_of-BlockClause first rest) = ap (λ (others : BlockClauses). clause_and (seen_clause first) others) (clauses_items rest)
 
-pub for_items : {m : _} (row : Row_of-ForClause m) → table.for_clauses_of (seen_for_clauses row) ≡ map for_clause_core (items-the_row-ForClause m row)
+pub for_items : {m : _} (row : Row_of-ForClause m) → table.for_clauses_of (seen_for row) ≡ map for_clause_core (items-the_row-ForClause m row)
 for_items end_of-ForClause = refl
 for_items (more_of-ForClause first rest) = ap (λ (others : List CoreClause). for_clause_core first ∷ others) (for_items rest)
 
@@ -69,11 +70,11 @@ pub body_held : (last : Held-Expression-If-4) → table.maybe_body (seen_otherwi
 body_held Expression-If-4-None' = refl
 body_held (Expression-If-4-Some' shape body) = search (rules, the_lemmas, body_items)
 
-pub step_held : (step : Held-ForClause-From-3) → table.maybe_of (seen_step step) ≡ maybe_tree (view-ForClause-From-3 step)
+pub step_held : (step : Held-ForClause-From-3) → table.maybe_of (seen_default step) ≡ maybe_tree (view-ForClause-From-3 step)
 step_held ForClause-From-3-None' = refl
 step_held (ForClause-From-3-Some' tree) = refl
 
-pub default_held : (step : Held-ForClause-From-3) → table.default_of (seen_step step) ≡ default_core (view-ForClause-From-3 step)
+pub default_held : (step : Held-ForClause-From-3) → table.default_of (seen_default step) ≡ default_core (view-ForClause-From-3 step)
 default_held ForClause-From-3-None' = refl
 default_held (ForClause-From-3-Some' tree) = refl
 

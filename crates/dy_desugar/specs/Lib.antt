@@ -1,4 +1,3 @@
 pub mod Groups
 pub mod Lists
-pub mod Sources
 pub mod Table

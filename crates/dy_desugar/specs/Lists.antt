@@ -17,22 +17,19 @@ use Rattle.dy_tree.specs.declared.expression.Parameters.{Parameters, out-Paramet
 use Rattle.dy_tree.specs.declared.expression.LocalMethod.{LocalMethod, out-LocalMethod}
 use Rattle.dy_term.specs.Types.{CoreKey}
 use Rattle.dy_term.specs.Drafts.{Core, CoreItem, CoreArm, CoreLambda, CoreClause, CoreLimit, no_limit, a_limit, CoreTest, no_test, a_test, CoreCatch, MaybeCore, nothing, just}
-use Rattle.dy_drafts.specs.Trees.{seen_variable}
+use Rattle.dy_syntax.specs.SeenTypes.{seen_variable}
 use Rattle.dy_drafts.specs.Parts.{bodied, false_core, first_or_false, limit_of}
 use Rattle.dy_drafts.specs.Shapes.{reads, key_of, type_of}
-use Rattle.dy_desugar.specs.Sources.{Arguments, no_argument, argument_and, ArgumentTree, BlockClauses, no_clause, clause_and, BlockClauseTree, afterwards_clause, cleanup_clause, exception_clause, seen, seen_argument, seen_item, seen_clause, seen_for_clause, seen_parameters}
+use Rattle.dy_syntax.specs.Trees as source
+use Rattle.dy_syntax.specs.Trees.{BlockClauses, block_clauses_of, afterwards_clause, cleanup_clause, exception_clause}
+use Rattle.dy_syntax.specs.SeenForms.{seen_tree, seen_argument, seen_item, seen_clause, seen_for_clause, seen_parameters}
 use Rattle.dy_desugar.specs.Table as table
 
 abbrev pub tree_core : Expression → Core
-tree_core tree = table.core_of (seen tree)
+tree_core tree = table.core_of (seen_tree tree)
 
 abbrev pub argument_terms : Argument → List Core
 argument_terms argument = table.argument_of (seen_argument argument)
-
--- arguments, one after the other
-abbrev pub arguments_in : List ArgumentTree → Arguments
-arguments_in [] = no_argument
-arguments_in (first ∷ rest) = argument_and first (arguments_in rest)
 
 abbrev pub item_core : Item → CoreItem
 item_core item = table.item_of (seen_item item)
@@ -101,26 +98,22 @@ lambda_core row items = table.lambda_from (seen_parameters row) (parameter_defau
 abbrev pub method_core : LocalMethod → Token × CoreLambda
 method_core method = ((out-LocalMethod method).name, lambda_core (out-LocalMethod method).parameters (out-LocalMethod method).body.items)
 
--- clauses of a block, one after the other
-abbrev pub clauses_in : List BlockClauseTree → BlockClauses
-clauses_in [] = no_clause
-clauses_in (first ∷ rest) = clause_and first (clauses_in rest)
-
+-- the clauses of a block
 abbrev pub block_clauses : List BlockClause → BlockClauses
-block_clauses clauses = clauses_in (map seen_clause clauses)
+block_clauses clauses = block_clauses_of (map seen_clause clauses)
 
 -- what a clause says by itself
-abbrev pub own_afterwards : BlockClauseTree → MaybeCore
+abbrev pub own_afterwards : source.BlockClause → MaybeCore
 own_afterwards (afterwards_clause body) = just (table.body_of body)
 own_afterwards (cleanup_clause body) = nothing
 own_afterwards (exception_clause variable condition body) = nothing
 
-abbrev pub own_cleanup : BlockClauseTree → MaybeCore
+abbrev pub own_cleanup : source.BlockClause → MaybeCore
 own_cleanup (afterwards_clause body) = nothing
 own_cleanup (cleanup_clause body) = just (table.body_of body)
 own_cleanup (exception_clause variable condition body) = nothing
 
-abbrev pub own_exception : BlockClauseTree → Option CoreCatch
+abbrev pub own_exception : source.BlockClause → Option CoreCatch
 own_exception (afterwards_clause body) = None
 own_exception (cleanup_clause body) = None
 own_exception (exception_clause variable condition body) = Some (record { variable = variable; condition = type_of condition; body = table.body_of body })

@@ -3,14 +3,15 @@ use Rattle.std.specs.Prelude.{ℕ, Bool, true, false, List, [], ◌∷◌, ◌++
 use Rattle.dy_tree.specs.declared.token.Token.{Token}
 use Rattle.dy_tree.specs.declared.types.LiteralForm.{LiteralForm}
 use Rattle.dy_tree.specs.declared.types.LiteralForm.TheVariants as forms
+use Rattle.dy_syntax.specs.Operators.{Precedence, logical, unless, while, until}
+use Rattle.dy_syntax.specs.Trees as source
+use Rattle.dy_syntax.specs.Trees.{Tree, Arguments, Argument, Body, ItemTree, Alternatives, Otherwise, Arms, Tests, MaybeTree, MaybeStop, MaybeLimit, MaybeKeys, Keys, Parameters, LocalMethods, BlockClauses, ForClauses, ForClause}
 use Rattle.dy_term.specs.Literals as constants
 use Rattle.dy_term.specs.Types.{CoreType, integer, CoreKey, CoreParams, CoreResults}
 use Rattle.dy_term.specs.Drafts.{Core, literal, name, set, no_place, cond, and, or, select, loop, method, block, MaybeCore, nothing, just, CoreItem, run, let_values, let_methods, handler, CoreLambda, lambda, CoreClause, then_clause, in_clause, from_clause, CoreLimit, no_limit, a_limit, CoreTest, no_test, a_test, CoreArm, CoreCatch, cores_of, choice_of, arms_of, methods_of, clauses_of, catches_of}
 use Rattle.dy_term.specs.Drafts as core
 use Rattle.dy_drafts.specs.Shapes.{reads, name_at, literal_of, list_of, constants_of, tail_of, type_of, declared_or, declared_of, locals_of, rest_of, required_of, results_of, key_of}
 use Rattle.dy_drafts.specs.Parts.{false_core, call_named, choose, not_core, unary_name, bodied, setting, setter_at, limit_of, first_or_false}
-use Rattle.dy_desugar.specs.Sources as source
-use Rattle.dy_desugar.specs.Sources.{Tree, Arguments, ArgumentTree, Body, ItemTree, Alternatives, Otherwise, Arms, Trees, MaybeTree, MaybeStop, MaybeLimit, MaybeKeys, KeyTrees, ParameterTree, LocalMethods, BlockClauses, ForClauses, ForClauseTree}
 
 abbrev pub literal_token : LiteralForm → Token
 literal_token (forms.Int form) = elim form.minus as (λ _. Token) [ None ↦ form.digits | Some minus ↦ minus ]
@@ -22,8 +23,7 @@ literal_token (forms.Symbol token) = token
 -- The first token of an expression. Brackets round it are no part of the tree.
 abbrev pub first_token : Tree → Token
 first_token (source.assignment place value) = first_token place
-first_token (source.logical left operator right) = first_token left
-first_token (source.operation left operator right) = first_token left
+first_token (source.operation precedence left operator right) = first_token left
 first_token (source.unary operator operand) = operator
 first_token (source.call function arguments) = first_token function
 first_token (source.element inner opener index) = first_token inner
@@ -35,9 +35,7 @@ first_token (source.vector opener items) = opener
 first_token (source.begin_tree word body) = word
 first_token (source.method_tree word row body) = word
 first_token (source.if_tree word test body alternatives other) = word
-first_token (source.unless_tree word test body) = word
-first_token (source.while_tree word test body) = word
-first_token (source.until_tree word test body) = word
+first_token (source.guarded guard word test body) = word
 first_token (source.case_tree word arms other) = word
 first_token (source.select_tree word value test arms other) = word
 first_token (source.block_tree word exit body clauses) = word
@@ -48,9 +46,9 @@ abbrev pub name_in : Tree → Option Token
 name_in (source.name token) = Some token
 name_in _ = None
 
-abbrev pub key_rows : KeyTrees → List CoreKey
+abbrev pub key_rows : Keys → List CoreKey
 key_rows source.no_key = []
-key_rows (source.key_and symbol variable default rest) = key_of symbol variable ∷ key_rows rest
+key_rows (source.key_and (source.a_key symbol variable default) rest) = key_of symbol variable ∷ key_rows rest
 
 abbrev pub keys_of : MaybeKeys → Option (List CoreKey)
 keys_of source.no_keys = None
@@ -60,22 +58,25 @@ abbrev pub takes_all : MaybeKeys → Bool
 takes_all source.no_keys = false
 takes_all (source.some_keys keys all) = all
 
-abbrev pub params_of : ParameterTree → CoreParams
+abbrev pub params_of : Parameters → CoreParams
 params_of (source.parameters required next rest keys results) =
     record { required = map required_of required; next = next; rest = rest; keys = keys_of keys; all_keys = takes_all keys }
 
-abbrev pub returned_of : ParameterTree → CoreResults
+abbrev pub returned_of : Parameters → CoreResults
 returned_of (source.parameters required next rest keys results) = results_of results
 
 -- a body with its parameters, from the defaults of the keyword parameters and the core of the body
-abbrev pub lambda_from : ParameterTree → List Core → Core → CoreLambda
+abbrev pub lambda_from : Parameters → List Core → Core → CoreLambda
 lambda_from row defaults inner = lambda (params_of row) (cores_of defaults) inner (returned_of row)
+
+-- Binary operators are calls of names, but for `&` and `|`, which evaluate their right side where it counts.
+abbrev pub operation_core : Precedence → Token → Core → Core → Core
+operation_core logical operator left right = if reads (codes "&") operator then and left right else or left right
+operation_core _ operator left right = call_named operator (left ∷ right ∷ [])
 
 abbrev mutual
   pub core_of : Tree → Core
-  -- operators are calls of names; `&` and `|` evaluate their right side where it counts
-  core_of (source.operation left operator right) = call_named operator (core_of left ∷ core_of right ∷ [])
-  core_of (source.logical left operator right) = if reads (codes "&") operator then and (core_of left) (core_of right) else or (core_of left) (core_of right)
+  core_of (source.operation precedence left operator right) = operation_core precedence operator (core_of left) (core_of right)
   core_of (source.unary operator operand) = call_named (unary_name operator) (core_of operand ∷ [])
   core_of (source.call function arguments) = core.call (core_of function) (cores_of (arguments_of arguments))
   core_of (source.element inner opener index) = call_named (name_at (codes "element") opener) (core_of inner ∷ core_of index ∷ [])
@@ -90,9 +91,9 @@ abbrev mutual
   core_of (source.begin_tree word body) = bodied (items_in body)
   core_of (source.method_tree word row body) = method (lambda_from row (defaults_of row) (bodied (items_in body)))
   core_of (source.if_tree word test body alternatives other) = cond (choice_of ((core_of test, bodied (items_in body)) ∷ alternatives_of alternatives) (or_false other))
-  core_of (source.unless_tree word test body) = choose (core_of test) false_core (bodied (items_in body))
-  core_of (source.while_tree word test body) = loop (core_of test) (bodied (items_in body))
-  core_of (source.until_tree word test body) = loop (not_core (core_of test)) (bodied (items_in body))
+  core_of (source.guarded unless word test body) = choose (core_of test) false_core (bodied (items_in body))
+  core_of (source.guarded while word test body) = loop (core_of test) (bodied (items_in body))
+  core_of (source.guarded until word test body) = loop (not_core (core_of test)) (bodied (items_in body))
   core_of (source.case_tree word arms other) = cond (choice_of (cases_of arms) (or_false other))
   core_of (source.select_tree word value test arms other) = select (core_of value) (maybe_of test) (arms_of (select_arms arms)) (maybe_body other)
   core_of (source.block_tree word exit body clauses) = block exit (bodied (items_in body)) (afterwards_of clauses) (cleanup_of clauses) (catches_of (exceptions_of clauses))
@@ -111,7 +112,7 @@ abbrev mutual
   arguments_of source.no_argument = []
   arguments_of (source.argument_and first rest) = argument_of first ++ arguments_of rest
 
-  pub argument_of : ArgumentTree → List Core
+  pub argument_of : Argument → List Core
   argument_of (source.keyword symbol value) = literal (literal_of (forms.Symbol symbol)) ∷ core_of value ∷ []
   argument_of (source.value tree) = core_of tree ∷ []
 
@@ -127,10 +128,10 @@ abbrev mutual
 
   pub local_methods_of : LocalMethods → List (Token × CoreLambda)
   local_methods_of source.no_method = []
-  local_methods_of (source.method_and word token row body rest) = (token, lambda_from row (defaults_of row) (bodied (items_in body))) ∷ local_methods_of rest
+  local_methods_of (source.method_and (source.local_method word token row body) rest) = (token, lambda_from row (defaults_of row) (bodied (items_in body))) ∷ local_methods_of rest
 
   -- the defaults of the keyword parameters
-  pub defaults_of : ParameterTree → List Core
+  pub defaults_of : Parameters → List Core
   defaults_of (source.parameters required next rest keys results) = key_defaults keys
 
   pub key_defaults : MaybeKeys → List Core
@@ -138,9 +139,9 @@ abbrev mutual
   key_defaults (source.some_keys keys all) = defaults_in keys
 
   -- a keyword without a default has `#f`
-  pub defaults_in : KeyTrees → List Core
+  pub defaults_in : Keys → List Core
   defaults_in source.no_key = []
-  defaults_in (source.key_and symbol variable default rest) = default_of default ∷ defaults_in rest
+  defaults_in (source.key_and (source.a_key symbol variable default) rest) = default_of default ∷ defaults_in rest
 
   pub default_of : MaybeTree → Core
   default_of source.no_tree = false_core
@@ -148,7 +149,7 @@ abbrev mutual
 
   pub alternatives_of : Alternatives → List (Core × Core)
   alternatives_of source.no_alternative = []
-  alternatives_of (source.alternative_and test body rest) = (core_of test, bodied (items_in body)) ∷ alternatives_of rest
+  alternatives_of (source.alternative_and (source.alternative test body) rest) = (core_of test, bodied (items_in body)) ∷ alternatives_of rest
 
   -- what is not written is `#f`
   pub or_false : Otherwise → Core
@@ -163,17 +164,17 @@ abbrev mutual
   maybe_of source.no_tree = nothing
   maybe_of (source.some_tree tree) = just (core_of tree)
 
-  pub tests_of : Trees → List Core
-  tests_of source.no_more = []
-  tests_of (source.tree_and first rest) = core_of first ∷ tests_of rest
+  pub tests_of : Tests → List Core
+  tests_of source.no_test = []
+  tests_of (source.test_and first rest) = core_of first ∷ tests_of rest
 
   pub cases_of : Arms → List (Core × Core)
   cases_of source.no_arm = []
-  cases_of (source.arm_and tests body rest) = (first_or_false (tests_of tests), bodied (items_in body)) ∷ cases_of rest
+  cases_of (source.arm_and (source.arm tests body) rest) = (first_or_false (tests_of tests), bodied (items_in body)) ∷ cases_of rest
 
   pub select_arms : Arms → List CoreArm
   select_arms source.no_arm = []
-  select_arms (source.arm_and tests body rest) = record { values = tests_of tests; body = bodied (items_in body) } ∷ select_arms rest
+  select_arms (source.arm_and (source.arm tests body) rest) = record { values = tests_of tests; body = bodied (items_in body) } ∷ select_arms rest
 
   -- the first `afterwards`, the first `cleanup`, and all `exception` clauses of a block
   pub afterwards_of : BlockClauses → MaybeCore
@@ -199,10 +200,10 @@ abbrev mutual
   for_clauses_of (source.for_clause_and first rest) = for_clause_of first ∷ for_clauses_of rest
 
   -- the numbers of a `for` are integers where no type is written
-  pub for_clause_of : ForClauseTree → CoreClause
-  for_clause_of (source.then_clause variable first next) = then_clause variable.name (declared_of variable) (core_of first) (core_of next)
-  for_clause_of (source.in_clause variable collection) = in_clause variable.name (declared_of variable) (core_of collection)
-  for_clause_of (source.from_clause variable start limit step) = from_clause variable.name (declared_or integer variable.declared) (core_of start) (bound_of limit) (maybe_of step)
+  pub for_clause_of : ForClause → CoreClause
+  for_clause_of (source.then_clause variable first next) = then_clause variable.variable (declared_of variable) (core_of first) (core_of next)
+  for_clause_of (source.in_clause variable collection) = in_clause variable.variable (declared_of variable) (core_of collection)
+  for_clause_of (source.from_clause variable start limit step) = from_clause variable.variable (declared_or integer variable.declared) (core_of start) (bound_of limit) (maybe_of step)
 
   pub bound_of : MaybeLimit → CoreLimit
   bound_of source.no_limit = no_limit
@@ -215,3 +216,7 @@ abbrev mutual
 
 abbrev pub body_of : Body → Core
 body_of body = bodied (items_in body)
+
+-- a method
+abbrev pub lambda_of : Parameters → Body → CoreLambda
+lambda_of row body = lambda_from row (defaults_of row) (body_of body)

@@ -2,7 +2,7 @@
 
 ghost use Rattle.std.specs.Prelude.{◌≡◌, ◌∷◌, map, IfOk};
 ghost use Rattle.dy_term.specs.Drafts.{seen_term, seen_pair, seen_arm, seen_option};
-ghost use Rattle.dy_desugar.specs.Sources.{seen};
+ghost use Rattle.dy_syntax.specs.SeenForms.{seen_tree};
 ghost use Rattle.dy_desugar.specs.Groups as groups;
 ghost use Rattle.dy_desugar.specs.Table as table;
 ghost use Rattle.dy_desugar.specs.Lists.{tree_core, alternative_core, otherwise_core, case_core, arm_core, maybe_boxed};
@@ -18,8 +18,8 @@ use std::alloc::{AllocError, Global};
 /// The term of a statement that chooses among bodies.
 #[cycle(terms)]
 pub(crate) fn choice_of(alloc: Global, expression: &Expression) -> Result<DraftTerm, AllocError>
-    requires { groups.group_of (seen expression.now) ≡ Group.Choice }
-    ensures { IfOk result (λ term. seen_term term ≡ table.core_of (seen expression.now)) }
+    requires { groups.group_of (seen_tree expression.now) ≡ Group.Choice }
+    ensures { IfOk result (λ term. seen_term term ≡ table.core_of (seen_tree expression.now)) }
 {
     match expression {
         Expression::If {

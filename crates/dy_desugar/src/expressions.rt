@@ -3,7 +3,7 @@
 ghost use Rattle.std.specs.Prelude.{◌≡◌, map, flat_map, IfOk};
 ghost use Rattle.dy_term.specs.Drafts.{no_place, seen_term};
 ghost use Rattle.dy_drafts.specs.Parts.{setting, setter_at};
-ghost use Rattle.dy_desugar.specs.Sources.{seen};
+ghost use Rattle.dy_syntax.specs.SeenForms.{seen_tree};
 ghost use Rattle.dy_desugar.specs.Groups as groups;
 ghost use Rattle.dy_desugar.specs.Table as table;
 ghost use Rattle.dy_desugar.specs.Lists.{argument_terms};
@@ -24,7 +24,7 @@ use std::alloc::{AllocError, Global};
 /// The term of an expression.
 #[cycle(terms)]
 pub fn term_of(alloc: Global, expression: &Expression) -> Result<DraftTerm, AllocError>
-    ensures { IfOk result (λ term. seen_term term ≡ table.core_of (seen expression.now)) }
+    ensures { IfOk result (λ term. seen_term term ≡ table.core_of (seen_tree expression.now)) }
 {
     match group_of(expression) {
         Group::Operator => operator_of(alloc, expression),
@@ -38,8 +38,8 @@ pub fn term_of(alloc: Global, expression: &Expression) -> Result<DraftTerm, Allo
 /// The term of an operator with its operands.
 #[cycle(terms)]
 fn operator_of(alloc: Global, expression: &Expression) -> Result<DraftTerm, AllocError>
-    requires { groups.group_of (seen expression.now) ≡ Group.Operator }
-    ensures { IfOk result (λ term. seen_term term ≡ table.core_of (seen expression.now)) }
+    requires { groups.group_of (seen_tree expression.now) ≡ Group.Operator }
+    ensures { IfOk result (λ term. seen_term term ≡ table.core_of (seen_tree expression.now)) }
 {
     match expression {
         Expression::Assign { place, value } => {
@@ -90,8 +90,8 @@ fn operator_of(alloc: Global, expression: &Expression) -> Result<DraftTerm, Allo
 /// The term of what stands between operators.
 #[cycle(terms)]
 fn operand_of(alloc: Global, expression: &Expression) -> Result<DraftTerm, AllocError>
-    requires { groups.group_of (seen expression.now) ≡ Group.Operand }
-    ensures { IfOk result (λ term. seen_term term ≡ table.core_of (seen expression.now)) }
+    requires { groups.group_of (seen_tree expression.now) ≡ Group.Operand }
+    ensures { IfOk result (λ term. seen_term term ≡ table.core_of (seen_tree expression.now)) }
 {
     match expression {
         Expression::Call {
@@ -130,7 +130,7 @@ fn assignment_of(
     place: &Expression,
     value: DraftTerm,
 ) -> Result<DraftTerm, AllocError>
-    ensures { IfOk result (λ term. seen_term term ≡ table.assignment_of (seen place.now) (table.core_of (seen place.now)) (seen_term value)) }
+    ensures { IfOk result (λ term. seen_term term ≡ table.assignment_of (seen_tree place.now) (table.core_of (seen_tree place.now)) (seen_term value)) }
 {
     match place {
         Expression::Name(token) => set_draft(alloc, token.copy()?, value),
@@ -176,7 +176,7 @@ fn set_call(
 /// The term of an assignment to what is no place.
 #[cycle(terms)]
 fn no_place_of(alloc: Global, place: &Expression, value: DraftTerm) -> Result<DraftTerm, AllocError>
-    ensures { IfOk result (λ term. seen_term term ≡ no_place (table.first_token (seen place.now)) (table.core_of (seen place.now)) (seen_term value)) }
+    ensures { IfOk result (λ term. seen_term term ≡ no_place (table.first_token (seen_tree place.now)) (table.core_of (seen_tree place.now)) (seen_term value)) }
 {
     let token = first_token(place).copy()?;
     let found = term_of(alloc, place)?;

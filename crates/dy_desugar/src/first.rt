@@ -1,7 +1,7 @@
 //! Where an expression begins.
 
 ghost use Rattle.std.specs.Prelude.{◌≡◌, option_map};
-ghost use Rattle.dy_desugar.specs.Sources.{seen};
+ghost use Rattle.dy_syntax.specs.SeenForms.{seen_tree};
 ghost use Rattle.dy_desugar.specs.Table.{first_token, literal_token, name_in};
 
 use dy_tree::{Expression, LiteralForm, Token};
@@ -24,7 +24,7 @@ fn literal_token(form: &LiteralForm) -> &Token
 
 /// The first token of an expression. Brackets round it are no part of the tree.
 pub(crate) fn first_token(expression: &Expression) -> &Token
-    ensures { result.now ≡ first_token (seen expression.now) }
+    ensures { result.now ≡ first_token (seen_tree expression.now) }
 {
     match expression {
         Expression::Assign { place: left, .. }
@@ -62,7 +62,7 @@ pub(crate) fn first_token(expression: &Expression) -> &Token
 
 /// The name that an expression is, if it is one.
 pub fn name_in(expression: &Expression) -> Option<&Token>
-    ensures { option_map (λ token. token.now) result ≡ name_in (seen expression.now) }
+    ensures { option_map (λ token. token.now) result ≡ name_in (seen_tree expression.now) }
 {
     match expression {
         Expression::Name(token) => Some(token),

@@ -1,7 +1,7 @@
 //! Which expressions are translated in the same way.
 
 ghost use Rattle.std.specs.Prelude.{◌≡◌};
-ghost use Rattle.dy_desugar.specs.Sources.{seen};
+ghost use Rattle.dy_syntax.specs.SeenForms.{seen_tree};
 ghost use Rattle.dy_desugar.specs.Groups.{group_of};
 
 use dy_tree::Expression;
@@ -23,7 +23,7 @@ pub(crate) enum Group {
 
 /// The kind of an expression.
 pub(crate) fn group_of(expression: &Expression) -> Group
-    ensures { result ≡ group_of (seen expression.now) }
+    ensures { result ≡ group_of (seen_tree expression.now) }
 {
     match expression {
         Expression::Assign { .. } | Expression::Logical { .. } => Group::Operator,

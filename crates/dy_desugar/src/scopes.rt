@@ -2,7 +2,7 @@
 
 ghost use Rattle.std.specs.Prelude.{◌≡◌, map, option_map, IfOk};
 ghost use Rattle.dy_term.specs.Drafts.{block, catches_of, seen_term, seen_option, seen_catch};
-ghost use Rattle.dy_desugar.specs.Sources.{seen, seen_clause};
+ghost use Rattle.dy_syntax.specs.SeenForms.{seen_tree, seen_clause};
 ghost use Rattle.dy_desugar.specs.Groups as groups;
 ghost use Rattle.dy_desugar.specs.Lists.{block_clauses, own_afterwards, own_cleanup, own_exception};
 ghost use Rattle.dy_desugar.specs.Table as table;
@@ -18,8 +18,8 @@ use std::alloc::{AllocError, Global};
 /// The term of a statement that is a body of its own.
 #[cycle(terms)]
 pub(crate) fn scope_of(alloc: Global, expression: &Expression) -> Result<DraftTerm, AllocError>
-    requires { groups.group_of (seen expression.now) ≡ Group.Scope }
-    ensures { IfOk result (λ term. seen_term term ≡ table.core_of (seen expression.now)) }
+    requires { groups.group_of (seen_tree expression.now) ≡ Group.Scope }
+    ensures { IfOk result (λ term. seen_term term ≡ table.core_of (seen_tree expression.now)) }
 {
     match expression {
         Expression::Begin { body, .. } => body_of(alloc, body),

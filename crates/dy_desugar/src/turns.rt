@@ -2,7 +2,7 @@
 
 ghost use Rattle.std.specs.Prelude.{◌≡◌, map, IfOk};
 ghost use Rattle.dy_term.specs.Drafts.{seen_term, seen_option, seen_clause, seen_bound, seen_ending};
-ghost use Rattle.dy_desugar.specs.Sources.{seen};
+ghost use Rattle.dy_syntax.specs.SeenForms.{seen_tree};
 ghost use Rattle.dy_desugar.specs.Groups as groups;
 ghost use Rattle.dy_desugar.specs.Lists.{for_clause_core, bound_core, maybe_tree, stop_core};
 ghost use Rattle.dy_desugar.specs.Table as table;
@@ -19,8 +19,8 @@ use std::alloc::{AllocError, Global};
 /// The term of a statement that repeats its body.
 #[cycle(terms)]
 pub(crate) fn loop_of(alloc: Global, expression: &Expression) -> Result<DraftTerm, AllocError>
-    requires { groups.group_of (seen expression.now) ≡ Group.Loop }
-    ensures { IfOk result (λ term. seen_term term ≡ table.core_of (seen expression.now)) }
+    requires { groups.group_of (seen_tree expression.now) ≡ Group.Loop }
+    ensures { IfOk result (λ term. seen_term term ≡ table.core_of (seen_tree expression.now)) }
 {
     match expression {
         Expression::While { test, body, .. } => {

@@ -10,15 +10,13 @@ use Rattle.dy_tree.specs.declared.token.TokenKind.TheVariants as kinds
 use Rattle.dy_tree.specs.declared.types.IntegerForm.{IntegerForm}
 use Rattle.dy_tree.specs.declared.types.LiteralForm.{LiteralForm}
 use Rattle.dy_tree.specs.declared.types.LiteralForm.TheVariants.{Int, Char, Str, Bool as Truth, Symbol}
-use Rattle.dy_tree.specs.declared.types.BoundForm.{BoundForm}
-use Rattle.dy_tree.specs.declared.types.SingleForm.{SingleForm}
-use Rattle.dy_tree.specs.declared.types.SingleForm.TheVariants.{Literal, Empty, Name}
+use Rattle.dy_syntax.specs.ConstantTrees as source
+use Rattle.dy_syntax.specs.Types as source_types
+use Rattle.dy_syntax.specs.Types.{Single, literal_single, empty_single, name_single, Bound, TypeTree, named_type, singleton_type, union_type, limited_type, TypeTrees, VariableTree, TargetTree, one_target, several, RequiredTree, required_variable, required_single, ResultTree, one_result, several_results}
 use Rattle.dy_term.specs.declared.draft.Local.{Local}
 use Rattle.dy_term.specs.declared.draft.Local.TheVariants.{Named}
 use Rattle.dy_term.specs.Literals as core
 use Rattle.dy_term.specs.Types.{CoreType, object, named, single, single_name, union, range, CoreTypes, no_type, type_and, CoreKey, CoreParams, CoreResults}
-use Rattle.dy_drafts.specs.Trees as source
-use Rattle.dy_drafts.specs.Trees.{TypeTree, named_type, singleton_type, union_type, limited_type, TypeTrees, VariableTree, TargetTree, one_target, several_targets, RequiredTree, variable_required, single_required, ResultTree, one_result, several_results}
 
 -- whether a token has this text
 abbrev pub reads : List ℕ → Token → Bool
@@ -70,16 +68,16 @@ abbrev mutual
 
   pub tail_of : source.Tail → core.Tail
   tail_of source.no_tail = core.no_tail
-  tail_of (source.a_tail value) = core.tail (constant_of value)
+  tail_of (source.tail value) = core.tail (constant_of value)
 
 -- the only value of a singleton type. A fault of a class's name is told at the given token.
-abbrev pub single_of : Token → SingleForm → CoreType
-single_of told (Literal value) = single (literal_of value)
-single_of told (Empty opener) = single core.nil
-single_of told (Name token) = single_name told token
+abbrev pub single_of : Token → Single → CoreType
+single_of told (literal_single value) = single (literal_of value)
+single_of told (empty_single opener) = single core.nil
+single_of told (name_single token) = single_name told token
 
 -- the number of the first bound with this keyword, or the one that is the limit without it
-abbrev pub bound_of : List ℕ → ℤ → List BoundForm → ℤ
+abbrev pub bound_of : List ℕ → ℤ → List Bound → ℤ
 bound_of text other [] = other
 bound_of text other (bound ∷ bounds) = if reads text bound.keyword then integer_of bound.number else bound_of text other bounds
 
@@ -91,8 +89,8 @@ abbrev mutual
   type_of (limited_type word class bounds) = range word (bound_of (codes "min") least bounds) (bound_of (codes "max") greatest bounds)
 
   pub types_of : TypeTrees → CoreTypes
-  types_of source.no_type = no_type
-  types_of (source.type_and first rest) = type_and (type_of first) (types_of rest)
+  types_of source_types.no_type = no_type
+  types_of (source_types.type_and first rest) = type_and (type_of first) (types_of rest)
 
 -- a type that may be left out
 abbrev pub declared_or : CoreType → Option TypeTree → CoreType
@@ -104,29 +102,29 @@ declared_of variable = declared_or object variable.declared
 
 -- a variable with its type, as a parameter and as a local
 abbrev pub typed_of : VariableTree → Token × CoreType
-typed_of variable = (variable.name, declared_of variable)
+typed_of variable = (variable.variable, declared_of variable)
 
 abbrev pub local_of : VariableTree → Local × CoreType
-local_of variable = (Named variable.name, declared_of variable)
+local_of variable = (Named variable.variable, declared_of variable)
 
 -- what a `let` binds
 abbrev pub locals_of : TargetTree → List (Local × CoreType)
 locals_of (one_target variable) = local_of variable ∷ []
-locals_of (several_targets variables rest) = map local_of variables
+locals_of (several variables rest) = map local_of variables
 
 abbrev pub rest_of : TargetTree → Option Local
 rest_of (one_target variable) = None
-rest_of (several_targets variables rest) = option_map Named rest
+rest_of (several variables rest) = option_map Named rest
 
 -- the type of the parameter in `name == value`. A fault of a class's name is told at that name.
-abbrev pub only_of : SingleForm → CoreType
-only_of (Literal value) = single (literal_of value)
-only_of (Empty opener) = single core.nil
-only_of (Name class) = single_name class class
+abbrev pub only_of : Single → CoreType
+only_of (literal_single value) = single (literal_of value)
+only_of (empty_single opener) = single core.nil
+only_of (name_single class) = single_name class class
 
 abbrev pub required_of : RequiredTree → Token × CoreType
-required_of (variable_required variable) = typed_of variable
-required_of (single_required token value) = (token, only_of value)
+required_of (required_variable variable) = typed_of variable
+required_of (required_single token value) = (token, only_of value)
 
 -- Without a list of results there may be any values.
 abbrev pub results_of : Option ResultTree → CoreResults
@@ -136,8 +134,8 @@ results_of (Some (several_results variables rest)) = record { required = map dec
 
 -- the keyword of a keyword parameter, which is the variable's name where none is written
 abbrev pub keyword_of : Option Token → VariableTree → Token
-keyword_of None variable = variable.name
+keyword_of None variable = variable.variable
 keyword_of (Some symbol) variable = symbol
 
 abbrev pub key_of : Option Token → VariableTree → CoreKey
-key_of symbol variable = record { keyword = keyword_of symbol variable; variable = variable.name; declared = declared_of variable }
+key_of symbol variable = record { keyword = keyword_of symbol variable; variable = variable.variable; declared = declared_of variable }

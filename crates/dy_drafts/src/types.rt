@@ -2,7 +2,7 @@
 
 ghost use Rattle.std.specs.Prelude.{◌≡◌, map, option_map, IfOk};
 ghost use Rattle.dy_term.specs.Types.{seen_type as seen_draft};
-ghost use Rattle.dy_drafts.specs.Trees.{seen_type};
+ghost use Rattle.dy_syntax.specs.SeenTypes.{seen_bound, seen_single, seen_type};
 ghost use Rattle.dy_drafts.specs.Shapes.{single_of, only_of, bound_of, type_of, declared_or};
 
 use crate::literal::{integer_of, literal_of};
@@ -13,7 +13,7 @@ use std::alloc::{AllocError, Global};
 
 /// The type of one value. A fault of a class's name is told at the given token.
 pub fn single_of(alloc: Global, told: &Token, form: &SingleForm) -> Result<DraftType, AllocError>
-    ensures { IfOk result (λ found. seen_draft found ≡ single_of told.now form.now) }
+    ensures { IfOk result (λ found. seen_draft found ≡ single_of told.now (seen_single form.now)) }
 {
     match form {
         SingleForm::Literal(literal) => Ok(DraftType::Single(literal_of(alloc, literal)?)),
@@ -24,7 +24,7 @@ pub fn single_of(alloc: Global, told: &Token, form: &SingleForm) -> Result<Draft
 
 /// The type of the parameter in `name == value`. A fault of a class's name is told at that name.
 pub fn only_of(alloc: Global, form: &SingleForm) -> Result<DraftType, AllocError>
-    ensures { IfOk result (λ found. seen_draft found ≡ only_of form.now) }
+    ensures { IfOk result (λ found. seen_draft found ≡ only_of (seen_single form.now)) }
 {
     match form {
         SingleForm::Literal(literal) => Ok(DraftType::Single(literal_of(alloc, literal)?)),
@@ -35,7 +35,7 @@ pub fn only_of(alloc: Global, form: &SingleForm) -> Result<DraftType, AllocError
 
 /// The number of the first bound with this keyword, or the one that is the limit without it.
 fn bound_of(text: &[u8], other: i64, bounds: &[BoundForm]) -> i64
-    ensures { result ≡ bound_of text.now other bounds.now }
+    ensures { result ≡ bound_of text.now other (map seen_bound bounds.now) }
 {
     for bound in bounds {
         if reads(text, &bound.keyword) {

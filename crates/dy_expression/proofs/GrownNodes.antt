@@ -26,14 +26,14 @@ assignment_made place value made n m inside e f g is lt =
 pub assignment_beyond : (place value : Tree) (n m inside : ℕ) → n ≡ depth place → m ≡ depth value → inside ≡ max n m → depth_limit ≤ inside → capped (assignment place value) ≡ deep_tree
 assignment_beyond place value n m inside f g is le = node_beyond (assignment place value) inside (omega arith) le
 
-pub element_made : (object index made : Tree) (n m inside : ℕ) → made ≡ element object index → n ≡ depth (filled object) → m ≡ depth (filled index) → inside ≡ max n m → inside < depth_limit
-    → Made made (element (filled object) (filled index)) (inside + 1)
-element_made object index made n m inside e f g is lt =
-    node_made made (element object index) (element (filled object) (filled index)) inside e
-    (λ le. fills_two (λ (first second : Tree). element first second) (fills_tree object) (fills_tree index) (omega arith)) refl (omega arith) lt
+pub element_made : (object : Tree) (opener : Token) (index made : Tree) (n m inside : ℕ) → made ≡ element object opener index → n ≡ depth (filled object) → m ≡ depth (filled index) → inside ≡ max n m → inside < depth_limit
+    → Made made (element (filled object) opener (filled index)) (inside + 1)
+element_made object opener index made n m inside e f g is lt =
+    node_made made (element object opener index) (element (filled object) opener (filled index)) inside e
+    (λ le. fills_two (λ (first second : Tree). element first opener second) (fills_tree object) (fills_tree index) (omega arith)) refl (omega arith) lt
 
-pub element_beyond : (object index : Tree) (n m inside : ℕ) → n ≡ depth object → m ≡ depth index → inside ≡ max n m → depth_limit ≤ inside → capped (element object index) ≡ deep_tree
-element_beyond object index n m inside f g is le = node_beyond (element object index) inside (omega arith) le
+pub element_beyond : (object : Tree) (opener : Token) (index : Tree) (n m inside : ℕ) → n ≡ depth object → m ≡ depth index → inside ≡ max n m → depth_limit ≤ inside → capped (element object opener index) ≡ deep_tree
+element_beyond object opener index n m inside f g is le = node_beyond (element object opener index) inside (omega arith) le
 
 pub unary_made : (sign : Token) (operand made : Tree) (n inside : ℕ) → made ≡ unary sign operand → n ≡ depth (filled operand) → inside ≡ n → inside < depth_limit → Made made (unary sign (filled operand)) (inside + 1)
 unary_made sign operand made n inside e f is lt =

@@ -48,13 +48,13 @@ pub all_none : (words : Splitting) (items : List Item) → SameStates None (afte
 all_none words items e = then_same (changed_state capping) capped tree_of tree_of None (after_all words (wants whole) items) tree_same e
 
 -- what was read inside of a group, as far as it is looked at
-pub group_read : (state : reading.State) (bracket : Bracket) (tree found : Option Tree) (passed other : Option (List Argument)) → tree ≡ option_map capped (tree_if (need_of state bracket) found) → passed ≡ option_map (map (changed_argument capping)) (passed_if (need_of state bracket) other)
-    → SameStates (at_group state bracket tree passed) (at_group state bracket found other)
-group_read state bracket tree found passed other e f =
+pub group_read : (state : reading.State) (opener : Token) (bracket : Bracket) (tree found : Option Tree) (passed other : Option (List Argument)) → tree ≡ option_map capped (tree_if (need_of state bracket) found) → passed ≡ option_map (map (changed_argument capping)) (passed_if (need_of state bracket) other)
+    → SameStates (at_group state opener bracket tree passed) (at_group state opener bracket found other)
+group_read state opener bracket tree found passed other e f =
     let need = need_of state bracket in
-    group_same state state bracket tree (tree_if need found) passed (passed_if need other) refl (ap (option_map capped) e ∙ option_twice capped tree_twice (tree_if need found))
+    group_same state state opener bracket tree (tree_if need found) passed (passed_if need other) refl (ap (option_map capped) e ∙ option_twice capped tree_twice (tree_if need found))
     (ap (option_map (map (changed_argument capping))) f ∙ option_twice (map (changed_argument capping)) arguments_twice (passed_if need other))
-    ∙ ap (option_map (changed_state capping)) (sym (need_is state bracket found other))
+    ∙ ap (option_map (changed_state capping)) (sym (need_is state opener bracket found other))
 
 -- The same of arguments.
 
@@ -88,16 +88,16 @@ passed_end items reader e = then_same (changed_passing capping) (map (changed_ar
 pub passed_none : (items : List Item) → SameReaders None (after_passing nothing_passed items) → SamePassed None (passed_items items)
 passed_none items e = then_same (changed_passing capping) (map (changed_argument capping)) arguments_at_end arguments_at_end None (after_passing nothing_passed items) end_same e
 
-value_same : (passed : List Argument) (word : Option Token) (state : reading.State) (bracket : Bracket) (tree found : Option Tree) (given other : Option (List Argument)) → tree ≡ option_map capped (tree_if (need_of state bracket) found)
-    → given ≡ option_map (map (changed_argument capping)) (passed_if (need_of state bracket) other) → SameReaders (value_group (passing passed word state) bracket tree given) (value_group (passing passed word state) bracket found other)
-value_same passed word state bracket tree found given other e f =
-    map_same (changed_state capping) (changed_passing capping) (passing passed word) (passing passed word) (at_group state bracket tree given) (at_group state bracket found other) (λ next behind g. ap (passing (map (changed_argument capping) passed) word) g) (group_read state bracket tree found given other e f)
+value_same : (passed : List Argument) (word : Option Token) (state : reading.State) (opener : Token) (bracket : Bracket) (tree found : Option Tree) (given other : Option (List Argument)) → tree ≡ option_map capped (tree_if (need_of state bracket) found)
+    → given ≡ option_map (map (changed_argument capping)) (passed_if (need_of state bracket) other) → SameReaders (value_group (passing passed word state) opener bracket tree given) (value_group (passing passed word state) opener bracket found other)
+value_same passed word state opener bracket tree found given other e f =
+    map_same (changed_state capping) (changed_passing capping) (passing passed word) (passing passed word) (at_group state opener bracket tree given) (at_group state opener bracket found other) (λ next behind g. ap (passing (map (changed_argument capping) passed) word) g) (group_read state opener bracket tree found given other e f)
 
 -- what was read inside of a group, as far as it is looked at
-pub ahead_read : (begins : Bool) (reader : Passing) (bracket : Bracket) (tree found : Option Tree) (given other : Option (List Argument)) → tree ≡ option_map capped (tree_if (need_ahead begins reader bracket) found)
-    → given ≡ option_map (map (changed_argument capping)) (passed_if (need_ahead begins reader bracket) other) → SameReaders (value_group (ahead begins reader) bracket tree given) (value_group (ahead begins reader) bracket found other)
-ahead_read begins nothing_passed bracket tree found given other e f = value_same [] None (wants whole) bracket tree found given other e f
-ahead_read begins (passes_next passed) bracket tree found given other e f = value_same passed None (wants whole) bracket tree found given other e f
-ahead_read true (symbol_first passed token) bracket tree found given other e f = value_same passed (Some token) (wants whole) bracket tree found given other e f
-ahead_read false (symbol_first passed token) bracket tree found given other e f = value_same passed None (has (literal (literals.Symbol token)) whole) bracket tree found given other e f
-ahead_read begins (passing passed word state) bracket tree found given other e f = value_same passed word state bracket tree found given other e f
+pub ahead_read : (begins : Bool) (reader : Passing) (opener : Token) (bracket : Bracket) (tree found : Option Tree) (given other : Option (List Argument)) → tree ≡ option_map capped (tree_if (need_ahead begins reader bracket) found)
+    → given ≡ option_map (map (changed_argument capping)) (passed_if (need_ahead begins reader bracket) other) → SameReaders (value_group (ahead begins reader) opener bracket tree given) (value_group (ahead begins reader) opener bracket found other)
+ahead_read begins nothing_passed opener bracket tree found given other e f = value_same [] None (wants whole) opener bracket tree found given other e f
+ahead_read begins (passes_next passed) opener bracket tree found given other e f = value_same passed None (wants whole) opener bracket tree found given other e f
+ahead_read true (symbol_first passed token) opener bracket tree found given other e f = value_same passed (Some token) (wants whole) opener bracket tree found given other e f
+ahead_read false (symbol_first passed token) opener bracket tree found given other e f = value_same passed None (has (literal (literals.Symbol token)) whole) opener bracket tree found given other e f
+ahead_read begins (passing passed word state) opener bracket tree found given other e f = value_same passed word state opener bracket tree found given other e f

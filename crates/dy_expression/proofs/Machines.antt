@@ -62,13 +62,13 @@ need_at_operand_is outer sharp_square tree = refl
 need_at_operand_is outer (statement kind) tree = refl
 need_at_operand_is outer bracket tree = refl
 
-need_behind_is : (part : Part) (bracket : Bracket) (tree : Option Tree) (passed : Option (List Argument)) → group_behind part bracket tree passed ≡ group_behind part bracket (tree_if (need_behind bracket) tree) (passed_if (need_behind bracket) passed)
-need_behind_is part round tree passed = refl
-need_behind_is part square tree passed = refl
-need_behind_is part bracket tree passed = refl
+need_behind_is : (part : Part) (opener : Token) (bracket : Bracket) (tree : Option Tree) (passed : Option (List Argument)) → group_behind part opener bracket tree passed ≡ group_behind part opener bracket (tree_if (need_behind bracket) tree) (passed_if (need_behind bracket) passed)
+need_behind_is part opener round tree passed = refl
+need_behind_is part opener square tree passed = refl
+need_behind_is part opener bracket tree passed = refl
 
-pub need_is : (state : reading.State) (bracket : Bracket) (tree : Option Tree) (passed : Option (List Argument)) → at_group state bracket tree passed ≡ at_group state bracket (tree_if (need_of state bracket) tree) (passed_if (need_of state bracket) passed)
-need_is (wants outer) bracket tree passed = need_at_operand_is outer bracket tree
-need_is (counted digits outer) bracket tree passed = need_behind_is (literal (positive digits), outer) bracket tree passed
-need_is (has left outer) bracket tree passed = need_behind_is (left, outer) bracket tree passed
-need_is (dotted left outer) bracket tree passed = refl
+pub need_is : (state : reading.State) (opener : Token) (bracket : Bracket) (tree : Option Tree) (passed : Option (List Argument)) → at_group state opener bracket tree passed ≡ at_group state opener bracket (tree_if (need_of state bracket) tree) (passed_if (need_of state bracket) passed)
+need_is (wants outer) opener bracket tree passed = need_at_operand_is outer bracket tree
+need_is (counted digits outer) opener bracket tree passed = need_behind_is (literal (positive digits), outer) opener bracket tree passed
+need_is (has left outer) opener bracket tree passed = need_behind_is (left, outer) opener bracket tree passed
+need_is (dotted left outer) opener bracket tree passed = refl

@@ -104,12 +104,12 @@ else_none (Some a) = refl
 
 -- a group
 pub group_item : (reader : Passing) (opener : Token) (inner : SeenFragments) (closer : Token) (found : Found)
-    → after_argument reader (group opener inner closer) (record { fragment = group opener inner closer; found = found }) ≡ value_group (ahead (begins_value (group opener inner closer)) reader) (bracket_of opener closer) found.tree found.passed
+    → after_argument reader (group opener inner closer) (record { fragment = group opener inner closer; found = found }) ≡ value_group (ahead (begins_value (group opener inner closer)) reader) opener (bracket_of opener closer) found.tree found.passed
 group_item nothing_passed opener inner closer found = refl
 group_item (passes_next passed) opener inner closer found = refl
 group_item (symbol_first passed token) opener inner closer found = by (begins_value (group opener inner closer))
   where
-    by : (begins : Bool) → reading.by_symbol begins passed token (group opener inner closer) (record { fragment = group opener inner closer; found = found }) ≡ value_group (ahead begins (symbol_first passed token)) (bracket_of opener closer) found.tree found.passed
+    by : (begins : Bool) → reading.by_symbol begins passed token (group opener inner closer) (record { fragment = group opener inner closer; found = found }) ≡ value_group (ahead begins (symbol_first passed token)) opener (bracket_of opener closer) found.tree found.passed
     by true = refl
     by false = else_none _
 group_item (passing passed word state) opener inner closer found = else_none _

@@ -34,9 +34,9 @@ after_token comma reader token = option_map passes_next (arguments_in reader)
 after_token symbol reader token = after_symbol reader token
 after_token role reader token = value_token (ahead (role_begins_value role) reader) token
 
-abbrev pub value_group : reading.Passing → Bracket → Option Tree → Option (List Argument) → Option reading.Passing
-value_group (passing passed keyword state) bracket tree arguments = option_map (passing passed keyword) (at_group state bracket tree arguments)
-value_group _ bracket tree arguments = None
+abbrev pub value_group : reading.Passing → Token → Bracket → Option Tree → Option (List Argument) → Option reading.Passing
+value_group (passing passed keyword state) opener bracket tree arguments = option_map (passing passed keyword) (at_group state opener bracket tree arguments)
+value_group _ opener bracket tree arguments = None
 
 -- which inside of a group is looked at
 abbrev pub need_ahead : Bool → reading.Passing → Bracket → Need

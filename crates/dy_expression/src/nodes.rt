@@ -188,7 +188,7 @@ pub fn element(
     opener: &Token,
     index: Grown,
 ) -> Result<Grown, AllocError>
-    ensures { IfOk result (λ grown. read_grown grown ≡ capped (trees.element (read_grown object) (read_grown index))) }
+    ensures { IfOk result (λ grown. read_grown grown ≡ capped (trees.element (read_grown object) opener.now (read_grown index))) }
 {
     let inside = deepest(object.depth, index.depth);
     if inside < DEPTH_LIMIT {

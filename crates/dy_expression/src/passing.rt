@@ -141,7 +141,7 @@ impl Value {
         tree: Option<Grown>,
         arguments: Option<Passed>,
     ) -> Result<Option<Passing>, AllocError>
-        ensures { IfOk result (λ next. option_map spec.seen_passing next ≡ option_map (changed_passing capping) (steps.value_group (spec.seen_value self) (seen_bracket bracket) (option_map read_grown tree) (option_map read_passed arguments))) }
+        ensures { IfOk result (λ next. option_map spec.seen_passing next ≡ option_map (changed_passing capping) (steps.value_group (spec.seen_value self) opener.now (seen_bracket bracket) (option_map read_grown tree) (option_map read_passed arguments))) }
     {
         let Value {
             passed,
@@ -267,7 +267,7 @@ impl Passing {
         tree: Option<Grown>,
         arguments: Option<Passed>,
     ) -> Result<Option<Passing>, AllocError>
-        ensures { IfOk result (λ next. option_map spec.seen_passing next ≡ option_map (changed_passing capping) (steps.value_group (steps.ahead begins (spec.seen_passing self)) (seen_bracket bracket) (option_map read_grown tree) (option_map read_passed arguments))) }
+        ensures { IfOk result (λ next. option_map spec.seen_passing next ≡ option_map (changed_passing capping) (steps.value_group (steps.ahead begins (spec.seen_passing self)) opener.now (seen_bracket bracket) (option_map read_grown tree) (option_map read_passed arguments))) }
     {
         let value = self.ahead(alloc, begins)?;
         value.group(alloc, bracket, opener, tree, arguments)

@@ -303,7 +303,7 @@ fn indexed(
     opener: &Token,
     index: Option<Grown>,
 ) -> Result<Option<Machine>, AllocError>
-    ensures { IfOk result (λ next. option_map spec.seen_machine next ≡ option_map (changed_state capping) (option_map (reading.indexed (read_grown object, seen_outer outer)) (option_map read_grown index))) }
+    ensures { IfOk result (λ next. option_map spec.seen_machine next ≡ option_map (changed_state capping) (option_map (reading.indexed (read_grown object, seen_outer outer) opener.now) (option_map read_grown index))) }
 {
     match index {
         Some(index) => {
@@ -324,7 +324,7 @@ fn group_behind(
     tree: Option<Grown>,
     passed: Option<Passed>,
 ) -> Result<Option<Machine>, AllocError>
-    ensures { IfOk result (λ next. option_map spec.seen_machine next ≡ option_map (changed_state capping) (reading.group_behind (read_grown object, seen_outer outer) (seen_bracket bracket) (option_map read_grown tree) (option_map read_passed passed))) }
+    ensures { IfOk result (λ next. option_map spec.seen_machine next ≡ option_map (changed_state capping) (reading.group_behind (read_grown object, seen_outer outer) opener.now (seen_bracket bracket) (option_map read_grown tree) (option_map read_passed passed))) }
 {
     match bracket {
         Bracket::Round => called(alloc, object, outer, opener, passed),
@@ -406,7 +406,7 @@ impl Machine {
         tree: Option<Grown>,
         passed: Option<Passed>,
     ) -> Result<Option<Machine>, AllocError>
-        ensures { IfOk result (λ next. option_map spec.seen_machine next ≡ option_map (changed_state capping) (reading.at_group (spec.seen_machine self) (seen_bracket bracket) (option_map read_grown tree) (option_map read_passed passed))) }
+        ensures { IfOk result (λ next. option_map spec.seen_machine next ≡ option_map (changed_state capping) (reading.at_group (spec.seen_machine self) opener.now (seen_bracket bracket) (option_map read_grown tree) (option_map read_passed passed))) }
     {
         let Machine { state, outer } = self;
         match state {

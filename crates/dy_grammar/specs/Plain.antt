@@ -1,7 +1,7 @@
 -- Parts of what expressions and statements are written as.
 use Rattle.std.specs.Prelude.{ℕ, List, [], ◌∷◌, ◌++◌}
 use Rattle.dy_tree.specs.Fragments.{SeenFragment, one}
-use Rattle.dy_syntax.specs.Marks.{in_round, in_square, written_literal, assigns_mark, dot_mark, comma_mark, list_group, vector_group, semicolon_mark, word_mark}
+use Rattle.dy_syntax.specs.Marks.{in_round, written_literal, assigns_mark, dot_mark, comma_mark, list_group, square_group, semicolon_mark, word_mark}
 use Rattle.dy_syntax.specs.Trees.{Tree, assignment, operation, call, element, member, literal, name, list, vector, begin_tree, if_tree, guarded, case_tree, select_tree, block_tree, for_tree, ForClauses, no_for_clause, for_clause_and, MaybeStop, no_stop, a_stop, method_tree, Arms, no_arm, arm_and, Otherwise, no_otherwise, otherwise}
 use Rattle.dy_syntax.specs.Writing.{written, written_operand, written_arguments, written_items, written_tail, written_body, written_signature, written_test, written_exit, written_for, written_stop, joined_clauses, written_alternatives, written_otherwise, written_arms, written_remains, joined_choices, written_clauses, written_finally}
 
@@ -16,7 +16,7 @@ abbrev pub behind_first : Tree → List SeenFragment
 behind_first (assignment place assigned) = assigns_mark ∷ written_operand assigned
 behind_first (operation precedence left operator right) = one operator ∷ written_operand right
 behind_first (call function arguments) = in_round (written_arguments arguments) ∷ []
-behind_first (element object index) = in_square (written index) ∷ []
+behind_first (element object opener index) = square_group opener (written index) ∷ []
 behind_first (member object token) = dot_mark ∷ one token ∷ []
 behind_first _ = []
 
@@ -25,7 +25,7 @@ abbrev pub leaf : Tree → List SeenFragment
 leaf (literal form) = written_literal form
 leaf (name token) = one token ∷ []
 leaf (list opener items last) = list_group opener (written_items items ++ written_tail last) ∷ []
-leaf (vector opener items) = vector_group opener (written_items items) ∷ []
+leaf (vector opener items) = square_group opener (written_items items) ∷ []
 leaf _ = []
 
 -- what stands before the body of a statement

@@ -54,9 +54,9 @@ class_through define adjectives token superclasses (Some slots) = refl
 
 -- methods and functions
 
-pub method_through : (define : Token) (adjectives : List Token) (found : Option NamedFound) → option_map (method_parts define adjectives) (option_map capped_named (option_map named_parts found)) ≡ option_map capped_form (option_map (method_of_form define adjectives) found)
-method_through define adjectives None = refl
-method_through define adjectives (Some entry) = ap (λ body. Some (method_form define adjectives entry.token (changed_parameters capping (parameters_of entry.method.found entry.method.results)) body)) (sym (row_body capping entry.method.trees))
+pub method_through : (define : Token) (adjectives : List Token) (word : Token) (found : Option NamedFound) → option_map (method_parts define adjectives word) (option_map capped_named (option_map named_parts found)) ≡ option_map capped_form (option_map (method_of_form define adjectives word) found)
+method_through define adjectives word None = refl
+method_through define adjectives word (Some entry) = ap (λ body. Some (method_form define adjectives word entry.token (changed_parameters capping (parameters_of entry.method.found entry.method.results)) body)) (sym (row_body capping entry.method.trees))
 
 pub function_through : (define : Token) (adjectives : List Token) (found : Option NamedFound) → option_map (function_parts define adjectives) (option_map capped_named (option_map named_parts found)) ≡ option_map capped_form (option_map (function_of_form define adjectives) found)
 function_through define adjectives None = refl

@@ -30,7 +30,7 @@ form_twice (class_form define adjectives token superclasses slots) = ap (class_f
 form_twice (constant_form define target assigned) = cc (target_twice target, tree_twice assigned)
 form_twice (variable_form define target assigned) = cc (target_twice target, tree_twice assigned)
 form_twice (generic_form define adjectives token signature) = ap (generic_form define adjectives token) (parameters_twice signature)
-form_twice (method_form define adjectives token signature body) = cc (parameters_twice signature, body_twice body)
+form_twice (method_form define adjectives word token signature body) = cc (parameters_twice signature, body_twice body)
 form_twice (function_form define adjectives token signature body) = cc (parameters_twice signature, body_twice body)
 form_twice (domain_form define token types) = ap (domain_form define token) (map_twice capped_type type_twice types)
 

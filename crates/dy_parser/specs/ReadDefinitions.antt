@@ -78,8 +78,8 @@ bound_form form bound = form bound.target bound.tree
 
 -- definitions of their parts
 
-abbrev pub method_parts : Token → List Token → NamedParts → FormTree
-method_parts define adjectives entry = method_form define adjectives entry.token entry.method.signature (body_of entry.method.trees)
+abbrev pub method_parts : Token → List Token → Token → NamedParts → FormTree
+method_parts define adjectives word entry = method_form define adjectives word entry.token entry.method.signature (body_of entry.method.trees)
 
 abbrev pub function_parts : Token → List Token → NamedParts → FormTree
 function_parts define adjectives entry = function_form define adjectives entry.token entry.method.signature (body_of entry.method.trees)

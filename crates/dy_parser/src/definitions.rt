@@ -99,7 +99,7 @@ fn method_of(
     depth: usize,
 ) -> Result<Option<FormRead>, AllocError>
     requires { NamedDepth 0 depth named }
-    ensures { IfOk result (λ found. option_map read_found found ≡ option_map (spec.method_parts define.now adjectives.items) (option_map read_named named)) }
+    ensures { IfOk result (λ found. option_map read_found found ≡ option_map (spec.method_parts define.now adjectives.items word.now) (option_map read_named named)) }
 {
     match named {
         Some(named) => Ok(Some(FormRead {
@@ -126,7 +126,7 @@ pub(crate) fn method(
     word: &Token,
     fragments: &[Fragment],
 ) -> Result<Option<FormRead>, AllocError>
-    ensures { IfOk result (λ found. option_map read_found found ≡ option_map capped_form (option_map (reading.method_of_form define.now adjectives.items) (named_items (items_of (seen_fragments fragments.now))))) }
+    ensures { IfOk result (λ found. option_map read_found found ≡ option_map capped_form (option_map (reading.method_of_form define.now adjectives.items word.now) (named_items (items_of (seen_fragments fragments.now))))) }
 {
     let mut depth = 0;
     let named = named_method(alloc, fragments, &mut depth)?;

@@ -66,20 +66,20 @@ reader_end fragments i reader found past e = ap (λ (list : List Fragment). opti
 -- a fragment is taken in as the part that it is
 
 state_inside : (state : State) (bracket : Bracket) (opener : Token) (inner : SeenFragments)
-    → at_group state bracket (tree_inside bracket opener inner (items_in inner)) (passed_items (items_in inner)) ≡ at_group state bracket (tree_inside bracket opener (pack (row inner)) (items_of (row inner))) (passed_items (items_of (row inner)))
+    → at_group state opener bracket (tree_inside bracket opener inner (items_in inner)) (passed_items (items_in inner)) ≡ at_group state opener bracket (tree_inside bracket opener (pack (row inner)) (items_of (row inner))) (passed_items (items_of (row inner)))
 state_inside state bracket opener inner =
-    ap (λ (items : List Item). at_group state bracket (tree_inside bracket opener inner items) (passed_items items)) (items_row inner)
-    ∙ ap (λ (packed : SeenFragments). at_group state bracket (tree_inside bracket opener packed (items_of (row inner))) (passed_items (items_of (row inner)))) (sym (pack_row inner))
+    ap (λ (items : List Item). at_group state opener bracket (tree_inside bracket opener inner items) (passed_items items)) (items_row inner)
+    ∙ ap (λ (packed : SeenFragments). at_group state opener bracket (tree_inside bracket opener packed (items_of (row inner))) (passed_items (items_of (row inner)))) (sym (pack_row inner))
 
 pub state_part : (words : Splitting) (state : State) (fragment : SeenFragment) → after_item words state (item_of fragment) ≡ state_at words state (part_of fragment)
 state_part words state (one token) = refl
 state_part words state (group opener inner closer) = state_inside state (bracket_of opener closer) opener inner
 
 value_inside : (reader : Passing) (bracket : Bracket) (opener : Token) (inner : SeenFragments)
-    → value_group reader bracket (tree_inside bracket opener inner (items_in inner)) (passed_items (items_in inner)) ≡ value_group reader bracket (tree_inside bracket opener (pack (row inner)) (items_of (row inner))) (passed_items (items_of (row inner)))
+    → value_group reader opener bracket (tree_inside bracket opener inner (items_in inner)) (passed_items (items_in inner)) ≡ value_group reader opener bracket (tree_inside bracket opener (pack (row inner)) (items_of (row inner))) (passed_items (items_of (row inner)))
 value_inside reader bracket opener inner =
-    ap (λ (items : List Item). value_group reader bracket (tree_inside bracket opener inner items) (passed_items items)) (items_row inner)
-    ∙ ap (λ (packed : SeenFragments). value_group reader bracket (tree_inside bracket opener packed (items_of (row inner))) (passed_items (items_of (row inner)))) (sym (pack_row inner))
+    ap (λ (items : List Item). value_group reader opener bracket (tree_inside bracket opener inner items) (passed_items items)) (items_row inner)
+    ∙ ap (λ (packed : SeenFragments). value_group reader opener bracket (tree_inside bracket opener packed (items_of (row inner))) (passed_items (items_of (row inner)))) (sym (pack_row inner))
 
 pub reader_part : (reader : Passing) (fragment : SeenFragment) → after_argument reader fragment (item_of fragment) ≡ reader_at (begins_value fragment) reader (part_of fragment)
 reader_part reader (one token) = token_item reader token nothing_found

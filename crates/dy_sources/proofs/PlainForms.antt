@@ -10,6 +10,7 @@ use Rattle.dy_base.specs.declared.fault.Refusal.{Refusal}
 use Rattle.dy_base.specs.declared.fault.Refusal.TheVariants as refusals
 use Rattle.dy_lexer.specs.declared.source.Source.{Source}
 use Rattle.dy_runnable.specs.declared.program.Program.{Program}
+use Rattle.dy_syntax.specs.Parsing.{Parsed, accepted as told_form, too_deep, no_form, parsed}
 use Rattle.dy_surface.specs.Forms.{draft_of}
 use Rattle.dy_tree.specs.declared.token.Token.{Token}
 use Rattle.dy_tree.specs.Fragments.{SeenFragment}
@@ -21,10 +22,10 @@ use Rattle.dy_sources.specs.declared.lexing.Lexed.{Lexed}
 use Rattle.dy_sources.specs.declared.lexing.Lexed.TheVariants.{Read, Faulty}
 use Rattle.dy_sources.specs.Words.{words}
 use Rattle.dy_sources.specs.Pieces.{Piece, pieces_of}
-use Rattle.dy_sources.specs.Forms.{reading_of, taken_top, Reads, no_form, too_deep, form, ReadsAll}
+use Rattle.dy_sources.specs.Forms.{reading_of, taken_top, told_reading, row_of}
 use Rattle.dy_sources.specs.Files.{Lexes, is_header}
 use Rattle.dy_sources.specs.Library.{is_library}
-use Rattle.dy_sources.specs.Verdicts.{Verdict, refused, accepted, found_verdict, JudgesForms, JudgesTokens, JudgesBoth, JudgesFiles, IsVerdict, Judged, IsPlain}
+use Rattle.dy_sources.specs.Verdicts.{Verdict, refused, accepted, found_verdict, forms_verdict, JudgesTokens, JudgesBoth, JudgesFiles, IsVerdict, Judged, IsPlain}
 use Rattle.dy_sources.proofs.PlainTokens.{IsPresent, source_present, groups_present}
 
 -- what is found tells no absent file
@@ -65,18 +66,17 @@ option_read : (top : Option TopTree) → IsRead (reading_of top)
 option_read None = λ e. cc
 option_read (Some top) = tt
 
-reads_read : (fragments : List SeenFragment) (reading : Reading) → Reads fragments reading → IsRead reading
-reads_read fragments reading (no_form is) = λ e. cc
-reads_read fragments reading (too_deep is) = λ e. cc
-reads_read fragments reading (form found reading2 is same) = subst IsRead (sym same) (option_read (taken_top fragments (draft_of found)))
+told_read : (fragments : List SeenFragment) (told : Parsed) → IsRead (told_reading fragments told)
+told_read fragments no_form = λ e. cc
+told_read fragments too_deep = λ e. cc
+told_read fragments (told_form form) = option_read (taken_top fragments (draft_of form))
 
-rows_tell : (methods earlier : List (List ℕ)) (pieces : List Piece) (rows : List Row) → ReadsAll pieces rows → All Tells (findings_from methods earlier rows)
-rows_tell methods earlier [] [] reads = All-nil Tells
-rows_tell methods earlier [] (row ∷ rows) reads = absurd reads
-rows_tell methods earlier (piece ∷ pieces) [] reads = absurd reads
-rows_tell methods earlier (piece ∷ pieces) (row ∷ rows) reads =
-    All-append Tells (reading_findings methods earlier row.reading row.place) (findings_from methods (name_of row ++ earlier) rows)
-    (reading_tells methods earlier row.reading row.place (reads_read piece.fragments row.reading reads.0.reading)) (rows_tell methods (name_of row ++ earlier) pieces rows reads.1)
+rows_tell : (methods earlier : List (List ℕ)) (pieces : List Piece) → All Tells (findings_from methods earlier (map row_of pieces))
+rows_tell methods earlier [] = All-nil Tells
+rows_tell methods earlier (piece ∷ pieces) =
+    let row : Row = row_of piece in
+    All-append Tells (reading_findings methods earlier row.reading row.place) (findings_from methods (name_of row ++ earlier) (map row_of pieces))
+    (reading_tells methods earlier row.reading row.place (told_read piece.fragments (parsed piece.fragments))) (rows_tell methods (name_of row ++ earlier) pieces)
 
 first_tells : (passes : Finding → Bool) (found : List Finding) (other : Finding) → All Tells found → Tells other → Tells (first_or passes found other)
 first_tells passes [] other all one = one
@@ -97,13 +97,13 @@ found_open library rows (Unbound token) tells = λ e. cc
 found_open library rows (Unfit kind place) tells = tells
 
 -- the verdict on the forms of a file
-pub forms_open : (library : List ℕ) (trees : List SeenFragment) (verdict : Verdict) → JudgesForms library trees verdict → IsOpen verdict
-forms_open library trees verdict (rows, reads, is) =
-    subst IsOpen (sym is) (found_open library rows (told (findings rows)) (told_tells (findings rows) (rows_tell (method_names rows) [] (pieces_of trees) rows reads)))
+pub forms_open : (library : List ℕ) (trees : List SeenFragment) → IsOpen (forms_verdict library trees)
+forms_open library trees =
+    let rows = map row_of (pieces_of trees) in found_open library rows (told (findings rows)) (told_tells (findings rows) (rows_tell (method_names rows) [] (pieces_of trees)))
 
 tokens_open : (library : List ℕ) (tokens : List Token) (verdict : Verdict) → JudgesTokens library tokens verdict → IsOpen verdict
 tokens_open library tokens verdict (inl (fault, first, is)) = subst IsOpen (sym is) (groups_present 200 words tokens fault first)
-tokens_open library tokens verdict (inr (trees, grouped, deep, judged)) = forms_open library trees verdict judged
+tokens_open library tokens verdict (inr (trees, grouped, deep, is)) = subst IsOpen (sym is) (forms_open library trees)
 
 both_open : (is_first same : Bool) (library : List ℕ) (first second : Source) (verdict : Verdict) → JudgesBoth is_first same library first second verdict → IsOpen verdict
 both_open false same library first second verdict is = subst IsOpen (sym is) (λ e. cc)

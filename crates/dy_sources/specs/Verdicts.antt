@@ -1,5 +1,5 @@
 -- What two source files come to (own in the order of faults).
-use Rattle.std.specs.Prelude.{◌≡◌, ◌≢◌, ◌≤◌, ◌⊎◌, ℕ, Bool, true, false, List, [], ◌∷◌, Some, Result, Ok, Err}
+use Rattle.std.specs.Prelude.{◌≡◌, ◌≢◌, ◌≤◌, ◌⊎◌, ℕ, Bool, true, false, List, [], ◌∷◌, map, Some, Result, Ok, Err}
 use Rattle.std.specs.Str.{bytes_eq}
 use Rattle.dy_base.specs.declared.kind.Kind.{Kind}
 use Rattle.dy_base.specs.declared.kind.Kind.TheVariants.{NoFile, Syntax, Unbound}
@@ -23,7 +23,7 @@ use Rattle.dy_sources.specs.declared.lexing.Lexed.{Lexed}
 use Rattle.dy_sources.specs.declared.lexing.Lexed.TheVariants.{Read, Faulty}
 use Rattle.dy_sources.specs.Words.{words}
 use Rattle.dy_sources.specs.Pieces.{pieces_of}
-use Rattle.dy_sources.specs.Forms.{ReadsAll}
+use Rattle.dy_sources.specs.Forms.{row_of}
 use Rattle.dy_sources.specs.Files.{Lexes, first_fault}
 use Rattle.dy_sources.specs.Library.{is_library}
 
@@ -49,14 +49,14 @@ found_verdict library rows (found.Unfit kind place) = refused (fault_with kind p
 abbrev pub row_verdict : List ℕ → List Row → Verdict
 row_verdict library rows = found_verdict library rows (told (findings rows))
 
-abbrev pub JudgesForms : List ℕ → List SeenFragment → Verdict → Type 0
-JudgesForms library trees verdict = (rows : List Row) × ReadsAll (pieces_of trees) rows × (verdict ≡ row_verdict library rows)
+abbrev pub forms_verdict : List ℕ → List SeenFragment → Verdict
+forms_verdict library trees = row_verdict library (map row_of (pieces_of trees))
 
 -- tokens are refused with the first fault of their groups, or their trees are judged
 abbrev pub JudgesTokens : List ℕ → List Token → Verdict → Type 0
 JudgesTokens library tokens verdict =
     ((fault : Fault) × Refused 200 words tokens fault × (verdict ≡ refused fault))
-    ⊎ ((trees : List SeenFragment) × Grouped words tokens trees × (depth trees ≤ 200) × JudgesForms library trees verdict)
+    ⊎ ((trees : List SeenFragment) × Grouped words tokens trees × (depth trees ≤ 200) × (verdict ≡ forms_verdict library trees))
 
 -- where the first token of a file stands, or its begin where it has none
 abbrev pub first_place : ℕ → List Token → Place

@@ -2,10 +2,11 @@
 
 ghost use Rattle.std.specs.Prelude.{◌≡◌, IfOk, map, option_map};
 ghost use Rattle.dy_tree.specs.Fragments.{seen_fragments};
+ghost use Rattle.dy_syntax.specs.SeenForms.{seen_form};
 ghost use Rattle.dy_surface.specs.Forms.{draft_of};
 ghost use Rattle.dy_subset.specs.Forms.{seen_top, seen_reading, seen_row};
 ghost use Rattle.dy_sources.specs.Pieces.{seen_piece};
-ghost use Rattle.dy_sources.specs.Forms.{reading_of, taken_top, Tells, Reads, ReadsPiece, ReadsAll};
+ghost use Rattle.dy_sources.specs.Forms.{reading_of, taken_top, reading_in, row_of, Tells};
 
 use crate::pieces::{Piece, place_of};
 use dy_base::{Kind, Refusal};
@@ -27,7 +28,7 @@ fn reading_of(top: Option<Top>) -> Reading
 
 /// What a form that was parsed is, if it has only tokens of forms that run.
 fn taken(alloc: Global, fragments: &Vec<Fragment>, form: &Form) -> Result<Option<Top>, AllocError>
-    ensures { IfOk result (λ top. option_map seen_top top ≡ taken_top (seen_fragments fragments.now.items) (draft_of form.now)) }
+    ensures { IfOk result (λ top. option_map seen_top top ≡ taken_top (seen_fragments fragments.now.items) (draft_of (seen_form form.now))) }
 {
     if are_taken(fragments) {
         let draft = to_core(alloc, form)?;
@@ -49,7 +50,7 @@ fn refused_reading(refusal: Refusal) -> Result<Reading, AllocError>
 
 /// What the fragments of a form are read as.
 fn read_form(alloc: Global, fragments: &Vec<Fragment>) -> Result<Reading, AllocError>
-    ensures { IfOk result (λ reading. Reads (seen_fragments fragments.now.items) (seen_reading reading)) }
+    ensures { IfOk result (λ reading. seen_reading reading ≡ reading_in (seen_fragments fragments.now.items)) }
 {
     match parse(alloc, fragments) {
         Ok(form) => Ok(reading_of(taken(alloc, fragments, &form)?)),
@@ -58,7 +59,7 @@ fn read_form(alloc: Global, fragments: &Vec<Fragment>) -> Result<Reading, AllocE
 }
 
 fn read_piece(alloc: Global, piece: &Piece) -> Result<Row, AllocError>
-    ensures { IfOk result (λ row. ReadsPiece (seen_piece piece.now) (seen_row row)) }
+    ensures { IfOk result (λ row. seen_row row ≡ row_of (seen_piece piece.now)) }
 {
     let place = place_of(piece);
     let reading = read_form(alloc, &piece.fragments)?;
@@ -67,7 +68,7 @@ fn read_piece(alloc: Global, piece: &Piece) -> Result<Row, AllocError>
 
 /// What the forms of a file are read as, each by itself.
 pub(crate) fn rows_of(alloc: Global, pieces: &[Piece]) -> Result<Vec<Row>, AllocError>
-    ensures { IfOk result (λ rows. ReadsAll (map seen_piece pieces.now) (map seen_row rows.items)) }
+    ensures { IfOk result (λ rows. map seen_row rows.items ≡ map row_of (map seen_piece pieces.now)) }
 {
     let mut rows = Vec::new(alloc);
     for piece in pieces {

@@ -4,7 +4,7 @@ ghost use Rattle.std.specs.Prelude.{◌≡◌, ◌<◌, ◌^◌, length, map, []
 ghost use Rattle.dy_base.specs.declared.kind.Kind.TheVariants.{Unbound};
 ghost use Rattle.dy_tree.specs.Fragments.{seen_fragments};
 ghost use Rattle.dy_subset.specs.Forms.{seen_row};
-ghost use Rattle.dy_sources.specs.Verdicts.{refused, syntax_at, fault_with, first_place, row_verdict, Judged, JudgesForms, JudgesTokens, JudgesSources, JudgesFiles, IsVerdict, IsPlain};
+ghost use Rattle.dy_sources.specs.Verdicts.{refused, syntax_at, fault_with, first_place, row_verdict, forms_verdict, Judged, JudgesTokens, JudgesSources, JudgesFiles, IsVerdict, IsPlain};
 
 use crate::forms::rows_of;
 use crate::lexing::{Lexed, first_fault, lex_file};
@@ -66,7 +66,7 @@ fn judge_rows(alloc: Global, library: &[u8], rows: &[Row]) -> Result<Program, Re
 
 /// The program of a file of these fragments.
 fn judge_forms(alloc: Global, library: &[u8], fragments: Vec<Fragment>) -> Result<Program, Refusal>
-    ensures { Judged (JudgesForms library.now (seen_fragments fragments.items)) result }
+    ensures { Judged (λ verdict. verdict ≡ forms_verdict library.now (seen_fragments fragments.items)) result }
 {
     let pieces = pieces_of(alloc, fragments)?;
     let rows = rows_of(alloc, &pieces)?;

@@ -3,9 +3,11 @@
 
 mod forms;
 mod judging;
+mod laws;
 mod lexing;
 mod library;
 mod pieces;
 mod words;
 
 pub use judging::judge;
+pub use laws::verdict_laws;

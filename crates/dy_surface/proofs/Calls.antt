@@ -7,22 +7,22 @@ use Rattle.dy_tree.specs.declared.expression.Argument.{Argument}
 use Rattle.dy_tree.specs.declared.expression.Argument.TheViews.{the_lemmas}
 use Rattle.dy_tree.specs.declared.expression.Expression.{Expression, Row_of-Argument, end_of-Argument, more_of-Argument, items-the_row-Argument}
 use Rattle.dy_tree.specs.declared.expression.Expression.TheVariants.{Call}
-use Rattle.dy_desugar.specs.Sources as source
-use Rattle.dy_desugar.specs.Sources.{Tree, Arguments, ArgumentTree, seen, seen_arguments, seen_argument}
+use Rattle.dy_syntax.specs.Trees as source
+use Rattle.dy_syntax.specs.Trees.{Tree, Arguments, arguments_of}
+use Rattle.dy_syntax.specs.SeenForms.{seen_tree, seen_arguments, seen_argument}
 use Rattle.dy_desugar.specs.Table.{name_in}
-use Rattle.dy_desugar.specs.Lists.{arguments_in}
 use Rattle.dy_surface.specs.TypeConstants.{form_type, listed, type_in, types_in}
 
-arguments_row : {m : _} (row : Row_of-Argument m) → seen_arguments row ≡ arguments_in (map seen_argument (items-the_row-Argument m row))
+arguments_row : {m : _} (row : Row_of-Argument m) → seen_arguments row ≡ arguments_of (map seen_argument (items-the_row-Argument m row))
 arguments_row end_of-Argument = refl
 arguments_row (more_of-Argument first rest) = ap (λ (others : Arguments). source.argument_and (seen_argument first) others) (arguments_row rest)
 
-seen_call : (function : Box Expression) (arguments : Vec Argument) → seen (Call function arguments) ≡ source.call (seen function.value) (arguments_in (map seen_argument arguments.items))
+seen_call : (function : Box Expression) (arguments : Vec Argument) → seen_tree (Call function arguments) ≡ source.call (seen_tree function.value) (arguments_of (map seen_argument arguments.items))
 seen_call function arguments = search (rules, the_lemmas, arguments_row)
 
-listed_in : (arguments : List ArgumentTree) → listed (arguments_in arguments) ≡ arguments
+listed_in : (arguments : List source.Argument) → listed (arguments_of arguments) ≡ arguments
 listed_in [] = refl
-listed_in (first ∷ rest) = ap (λ (others : List ArgumentTree). first ∷ others) (listed_in rest)
+listed_in (first ∷ rest) = ap (λ (others : List source.Argument). first ∷ others) (listed_in rest)
 
 named_type : (function : Tree) (arguments : Arguments) (token : Token) → name_in function ≡ Some token → type_in (source.call function arguments) ≡ form_type token (listed arguments) (types_in arguments)
 named_type (source.name found) arguments token named =
@@ -35,14 +35,14 @@ unnamed_type (source.name found) arguments none = absurd cc
 unnamed_type _ arguments none = refl
 
 -- a call of a name, and of something else
-pub at_named : (function : Box Expression) (arguments : Vec Argument) (token : Token) → name_in (seen function.value) ≡ Some token
-    → type_in (seen (Call function arguments)) ≡ form_type token (map seen_argument arguments.items) (types_in (arguments_in (map seen_argument arguments.items)))
+pub at_named : (function : Box Expression) (arguments : Vec Argument) (token : Token) → name_in (seen_tree function.value) ≡ Some token
+    → type_in (seen_tree (Call function arguments)) ≡ form_type token (map seen_argument arguments.items) (types_in (arguments_of (map seen_argument arguments.items)))
 at_named function arguments token named =
     let passed = map seen_argument arguments.items in
     ap type_in (seen_call function arguments)
-    ∙ named_type (seen function.value) (arguments_in passed) token named
-    ∙ ap (λ (list : List ArgumentTree). form_type token list (types_in (arguments_in passed))) (listed_in passed)
+    ∙ named_type (seen_tree function.value) (arguments_of passed) token named
+    ∙ ap (λ (list : List source.Argument). form_type token list (types_in (arguments_of passed))) (listed_in passed)
 
-pub at_unnamed : (function : Box Expression) (arguments : Vec Argument) → name_in (seen function.value) ≡ None → type_in (seen (Call function arguments)) ≡ None
+pub at_unnamed : (function : Box Expression) (arguments : Vec Argument) → name_in (seen_tree function.value) ≡ None → type_in (seen_tree (Call function arguments)) ≡ None
 at_unnamed function arguments none =
-    ap type_in (seen_call function arguments) ∙ unnamed_type (seen function.value) (arguments_in (map seen_argument arguments.items)) none
+    ap type_in (seen_call function arguments) ∙ unnamed_type (seen_tree function.value) (arguments_of (map seen_argument arguments.items)) none

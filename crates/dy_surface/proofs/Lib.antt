@@ -1,3 +1,4 @@
 pub mod Calls
 pub mod Fronts
+pub mod Lambdas
 pub mod Steps

@@ -4,13 +4,13 @@ use Rattle.dy_tree.specs.declared.token.Token.{Token}
 use Rattle.dy_tree.specs.declared.token.TokenKind.{TokenKind}
 use Rattle.dy_tree.specs.declared.token.TokenKind.TheVariants as kinds
 use Rattle.dy_tree.specs.declared.types.LiteralForm.TheVariants as forms
+use Rattle.dy_syntax.specs.ConstantTrees.{Constants, no_constant, Tail, no_tail}
+use Rattle.dy_syntax.specs.Trees as source
+use Rattle.dy_syntax.specs.Trees.{Tree, Arguments, Argument}
 use Rattle.dy_term.specs.Literals as constants
 use Rattle.dy_term.specs.Types.{CoreType, named, single, single_name, union, range, types_of}
-use Rattle.dy_drafts.specs.Trees.{Constants, no_constant, Tail, no_tail}
 use Rattle.dy_drafts.specs.Shapes.{reads, integer_of, literal_of, least, greatest}
 use Rattle.dy_desugar.specs.Table.{name_in}
-use Rattle.dy_desugar.specs.Sources as source
-use Rattle.dy_desugar.specs.Sources.{Tree, Arguments, ArgumentTree}
 
 abbrev pub is_plain : TokenKind → Bool
 is_plain kinds.Name = true
@@ -32,7 +32,7 @@ only_value word (source.list opener items tail) = if is_nil items tail then Some
 only_value word (source.name token) = Some (single_name word token)
 only_value word _ = None
 
-abbrev pub singleton_type : Token → List ArgumentTree → Option CoreType
+abbrev pub singleton_type : Token → List Argument → Option CoreType
 singleton_type word (source.value tree ∷ []) = only_value word tree
 singleton_type word _ = None
 
@@ -47,7 +47,7 @@ number_in (source.literal (forms.Int form)) = Some (integer_of form)
 number_in _ = None
 
 -- the number of the keyword argument with this keyword
-abbrev pub limit_in : List ℕ → ArgumentTree → Option ℤ
+abbrev pub limit_in : List ℕ → Argument → Option ℤ
 limit_in text (source.keyword symbol tree) = if reads text symbol then number_in tree else None
 limit_in text (source.value tree) = None
 
@@ -60,15 +60,15 @@ abbrev pub either_type : Option CoreType → Option CoreType → Option CoreType
 either_type (Some found) other = Some found
 either_type None other = other
 
-abbrev pub bounded_by : Token → ArgumentTree → Option CoreType
+abbrev pub bounded_by : Token → Argument → Option CoreType
 bounded_by word one = either_type (between word (limit_in (codes "min") one) (Some greatest)) (between word (Some least) (limit_in (codes "max") one))
 
-abbrev pub bounded_by_both : Token → ArgumentTree → ArgumentTree → Option CoreType
+abbrev pub bounded_by_both : Token → Argument → Argument → Option CoreType
 bounded_by_both word one other =
     either_type (between word (limit_in (codes "min") one) (limit_in (codes "max") other)) (between word (limit_in (codes "min") other) (limit_in (codes "max") one))
 
 -- each of the bounds once at most, in either order
-abbrev pub bounded : Token → List ArgumentTree → Option CoreType
+abbrev pub bounded : Token → List Argument → Option CoreType
 bounded word [] = Some (range word least greatest)
 bounded word (one ∷ []) = bounded_by word one
 bounded word (one ∷ other ∷ []) = bounded_by_both word one other
@@ -79,23 +79,23 @@ abbrev pub reads_integer : Option Token → Bool
 reads_integer None = false
 reads_integer (Some token) = reads (codes "<integer>") token
 
-abbrev pub is_integer_class : ArgumentTree → Bool
+abbrev pub is_integer_class : Argument → Bool
 is_integer_class (source.keyword symbol tree) = false
 is_integer_class (source.value tree) = reads_integer (name_in tree)
 
-abbrev pub limited_type : Token → List ArgumentTree → Option CoreType
+abbrev pub limited_type : Token → List Argument → Option CoreType
 limited_type word [] = None
 limited_type word (class ∷ bounds) = if is_integer_class class then bounded word bounds else None
 
 -- a call of one of the three words, from its arguments, and from the types that they are where all are types
-abbrev pub form_type : Token → List ArgumentTree → Option (List CoreType) → Option CoreType
+abbrev pub form_type : Token → List Argument → Option (List CoreType) → Option CoreType
 form_type word arguments types =
     if is_word (codes "singleton") word then singleton_type word arguments
     else if is_word (codes "type-union") word then union_type word types
     else if is_word (codes "limited") word then limited_type word arguments
     else None
 
-abbrev pub listed : Arguments → List ArgumentTree
+abbrev pub listed : Arguments → List Argument
 listed source.no_argument = []
 listed (source.argument_and first rest) = first ∷ listed rest
 
@@ -115,7 +115,7 @@ abbrev mutual
   types_in source.no_argument = Some []
   types_in (source.argument_and first rest) = both_types (argument_type first) (types_in rest)
 
-  pub argument_type : ArgumentTree → Option CoreType
+  pub argument_type : Argument → Option CoreType
   argument_type (source.keyword symbol tree) = None
   argument_type (source.value tree) = type_in tree
 

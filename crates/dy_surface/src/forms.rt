@@ -1,14 +1,15 @@
 //! Whole forms as drafts of the core (DRM 5 and 6).
 
 ghost use Rattle.std.specs.Prelude.{◌≡◌, map, true, IfOk};
+ghost use Rattle.dy_syntax.specs.Types as source;
+ghost use Rattle.dy_syntax.specs.Trees.{body_of};
+ghost use Rattle.dy_syntax.specs.SeenTypes.{seen_variable, seen_target, seen_type as type_tree};
+ghost use Rattle.dy_syntax.specs.SeenForms.{seen_form, seen_items, seen_parameters, seen_slot, seen_tree};
 ghost use Rattle.dy_term.specs.Types.{seen_type, seen_typed};
 ghost use Rattle.dy_term.specs.Drafts.{seen_term, seen_lambda};
 ghost use Rattle.dy_term.specs.Rows.{variable_row, top_term, type_constant, seen_draft, seen_top};
-ghost use Rattle.dy_drafts.specs.Trees.{several_targets, seen_variable, seen_target, seen_type as seen_form};
 ghost use Rattle.dy_drafts.specs.Shapes.{type_of, typed_of, declared_of};
-ghost use Rattle.dy_desugar.specs.Sources.{seen};
-ghost use Rattle.dy_desugar.specs.Lists.{lambda_core};
-ghost use Rattle.dy_desugar.specs.Table.{core_of};
+ghost use Rattle.dy_desugar.specs.Table as table;
 ghost use Rattle.dy_surface.specs.Forms as spec;
 
 use crate::slots::{has, slots_of};
@@ -26,7 +27,7 @@ use std::alloc::{AllocError, Global};
 
 /// What a form is in the core. It recurs no deeper than the form's tree.
 pub fn to_core(alloc: Global, form: &Form) -> Result<Draft, AllocError>
-    ensures { IfOk result (λ draft. seen_draft draft ≡ spec.draft_of form.now) }
+    ensures { IfOk result (λ draft. seen_draft draft ≡ spec.draft_of (seen_form form.now)) }
 {
     match form {
         Form::Expression(expression) => Ok(Draft::Top(DraftTop::Run(term_of(alloc, expression)?))),
@@ -81,7 +82,7 @@ fn class_of(
     superclasses: &Vec<Token>,
     slots: &Vec<Slot>,
 ) -> Result<Draft, AllocError>
-    ensures { IfOk result (λ draft. seen_draft draft ≡ spec.class_of adjectives.now.items name.now superclasses.now.items slots.now.items) }
+    ensures { IfOk result (λ draft. seen_draft draft ≡ spec.class_of adjectives.now.items name.now superclasses.now.items (map seen_slot slots.now.items)) }
 {
     Ok(Draft::Class(DraftClass {
         name: name.copy()?,
@@ -95,7 +96,7 @@ fn class_of(
 
 /// A constant, which stands for a type where its value is written as one.
 fn constant_of(alloc: Global, target: &Target, value: &Expression) -> Result<Draft, AllocError>
-    ensures { IfOk result (λ draft. seen_draft draft ≡ spec.constant_of (seen_target target.now) (seen value.now)) }
+    ensures { IfOk result (λ draft. seen_draft draft ≡ spec.constant_of (seen_target target.now) (seen_tree value.now)) }
 {
     match target {
         Target::One(variable) => match constant_type(alloc, value)? {
@@ -117,7 +118,7 @@ fn type_constant(alloc: Global, variable: &Variable, meant: DraftType) -> Result
 
 /// Constants that take the values of an expression.
 fn constant_value(alloc: Global, target: &Target, value: &Expression) -> Result<Draft, AllocError>
-    ensures { IfOk result (λ draft. seen_draft draft ≡ top_term (spec.initial true (seen_target target.now) (core_of (seen value.now)))) }
+    ensures { IfOk result (λ draft. seen_draft draft ≡ top_term (spec.initial true (seen_target target.now) (table.core_of (seen_tree value.now)))) }
 {
     let term = term_of(alloc, value)?;
     Ok(Draft::Top(initial(alloc, true, target, term)?))
@@ -153,7 +154,7 @@ fn several(
     found: &Variables,
     term: DraftTerm,
 ) -> Result<DraftTop, AllocError>
-    ensures { IfOk result (λ top. seen_top top ≡ spec.initial is_constant (several_targets (map seen_variable found.now.variables.items) found.now.rest) (seen_term term)) }
+    ensures { IfOk result (λ top. seen_top top ≡ spec.initial is_constant (source.several (map seen_variable found.now.variables.items) found.now.rest) (seen_term term)) }
 {
     match &found.rest {
         None => {
@@ -195,7 +196,7 @@ fn generic_of(
     name: &Token,
     parameters: &Parameters,
 ) -> Result<Draft, AllocError>
-    ensures { IfOk result (λ draft. seen_draft draft ≡ spec.generic_of adjectives.now.items name.now parameters.now) }
+    ensures { IfOk result (λ draft. seen_draft draft ≡ spec.generic_of adjectives.now.items name.now (seen_parameters parameters.now)) }
 {
     Ok(Draft::Generic(DraftGeneric {
         name: name.copy()?,
@@ -216,6 +217,7 @@ fn next_of(alloc: Global, word: &Token, next: &Option<Token>) -> Result<Option<T
 }
 
 /// A method of a generic function.
+#[tactic(auto, using(crate::proofs::Lambdas::next_is))]
 fn method_of(
     alloc: Global,
     adjectives: &Vec<Token>,
@@ -224,7 +226,7 @@ fn method_of(
     parameters: &Parameters,
     body: &Vec<Item>,
 ) -> Result<Draft, AllocError>
-    ensures { IfOk result (λ draft. seen_draft draft ≡ spec.method_of adjectives.now.items word.now name.now parameters.now body.now.items) }
+    ensures { IfOk result (λ draft. seen_draft draft ≡ spec.method_of adjectives.now.items word.now name.now (seen_parameters parameters.now) (body_of (seen_items body.now.items))) }
 {
     Ok(Draft::Method(DraftMethod {
         generic: name.copy()?,
@@ -235,12 +237,13 @@ fn method_of(
 }
 
 /// A body with its parameters.
+#[tactic(auto, using(crate::proofs::Lambdas::lambda_is))]
 fn lambda_of(
     alloc: Global,
     parameters: &Parameters,
     body: &Vec<Item>,
 ) -> Result<DraftLambda, AllocError>
-    ensures { IfOk result (λ code. seen_lambda code ≡ lambda_core parameters.now body.now.items) }
+    ensures { IfOk result (λ code. seen_lambda code ≡ table.lambda_of (seen_parameters parameters.now) (body_of (seen_items body.now.items))) }
 {
     let defaults = defaults_of(alloc, parameters)?;
     let body = body_of(alloc, body)?;
@@ -249,7 +252,7 @@ fn lambda_of(
 
 /// The types of a domain.
 fn types_of(alloc: Global, forms: &Vec<TypeForm>) -> Result<Vec<DraftType>, AllocError>
-    ensures { IfOk result (λ types. map seen_type types.items ≡ map (λ form. type_of (seen_form form)) forms.now.items) }
+    ensures { IfOk result (λ types. map seen_type types.items ≡ map type_of (map type_tree forms.now.items)) }
 {
     let mut types = Vec::new(alloc);
     for form in forms {

@@ -1,6 +1,7 @@
 //! Slots of classes (DRM 5, "Slots").
 
 ghost use Rattle.std.specs.Prelude.{◌≡◌, map, option_map, IfOk};
+ghost use Rattle.dy_syntax.specs.SeenForms.{seen_option, seen_initial, seen_slot as slot_tree};
 ghost use Rattle.dy_term.specs.Rows.{seen_slot, seen_init};
 ghost use Rattle.dy_surface.specs.Forms.{has, kind_of, written_setter, setter_of, keyword_of, is_required, written_init, init_of, slot_of};
 
@@ -39,7 +40,7 @@ fn kind_of(words: &[Token]) -> SlotKind
 
 /// The name behind `setter:`, or `#f`.
 fn written_setter(options: &[SlotOption]) -> Option<&Token>
-    ensures { option_map (λ token. token.now) result ≡ written_setter options.now }
+    ensures { option_map (λ token. token.now) result ≡ written_setter (map seen_option options.now) }
 {
     for option in options {
         if let SlotOption::Setter(token) = option {
@@ -51,7 +52,7 @@ fn written_setter(options: &[SlotOption]) -> Option<&Token>
 
 /// The name of a slot's setter, if it has one.
 fn setter_of(alloc: Global, slot: &Slot) -> Result<Option<Token>, AllocError>
-    ensures { IfOk result (λ setter. setter ≡ setter_of slot.now.adjectives.items slot.now.name slot.now.options.items) }
+    ensures { IfOk result (λ setter. setter ≡ setter_of slot.now.adjectives.items slot.now.name (map seen_option slot.now.options.items)) }
 {
     if has(b"constant", &slot.adjectives) {
         return Ok(None);
@@ -70,7 +71,7 @@ fn setter_of(alloc: Global, slot: &Slot) -> Result<Option<Token>, AllocError>
 
 /// The init keyword, and whether it is required.
 fn keyword_of(options: &[SlotOption]) -> Option<(&Token, bool)>
-    ensures { option_map (λ found. (found.0.now, found.1)) result ≡ keyword_of options.now }
+    ensures { option_map (λ found. (found.0.now, found.1)) result ≡ keyword_of (map seen_option options.now) }
 {
     for option in options {
         match option {
@@ -84,7 +85,7 @@ fn keyword_of(options: &[SlotOption]) -> Option<(&Token, bool)>
 
 /// The init keyword, if there is one.
 fn init_keyword(options: &[SlotOption]) -> Result<Option<Token>, AllocError>
-    ensures { IfOk result (λ keyword. keyword ≡ option_map (λ found. found.0) (keyword_of options.now)) }
+    ensures { IfOk result (λ keyword. keyword ≡ option_map (λ found. found.0) (keyword_of (map seen_option options.now))) }
 {
     match keyword_of(options) {
         None => Ok(None),
@@ -94,7 +95,7 @@ fn init_keyword(options: &[SlotOption]) -> Result<Option<Token>, AllocError>
 
 /// Whether the init keyword is required.
 fn is_required(options: &[SlotOption]) -> bool
-    ensures { result ≡ is_required (keyword_of options.now) }
+    ensures { result ≡ is_required (keyword_of (map seen_option options.now)) }
 {
     match keyword_of(options) {
         None => false,
@@ -104,7 +105,7 @@ fn is_required(options: &[SlotOption]) -> bool
 
 /// What an option fills a slot with.
 fn written_init(alloc: Global, options: &[SlotOption]) -> Result<Option<DraftInit>, AllocError>
-    ensures { IfOk result (λ init. option_map seen_init init ≡ written_init options.now) }
+    ensures { IfOk result (λ init. option_map seen_init init ≡ written_init (map seen_option options.now)) }
 {
     for option in options {
         match option {
@@ -126,7 +127,7 @@ fn init_of(
     value: &Option<Expression>,
     options: &[SlotOption],
 ) -> Result<Option<DraftInit>, AllocError>
-    ensures { IfOk result (λ init. option_map seen_init init ≡ init_of value.now options.now) }
+    ensures { IfOk result (λ init. option_map seen_init init ≡ init_of (seen_initial value.now) (map seen_option options.now)) }
 {
     match value {
         Some(value) => Ok(Some(DraftInit::Each(term_of(alloc, value)?))),
@@ -136,7 +137,7 @@ fn init_of(
 
 /// A slot.
 fn slot_of(alloc: Global, slot: &Slot) -> Result<DraftSlot, AllocError>
-    ensures { IfOk result (λ found. seen_slot found ≡ slot_of slot.now) }
+    ensures { IfOk result (λ found. seen_slot found ≡ slot_of (slot_tree slot.now)) }
 {
     let getter = slot.name.copy()?;
     let setter = setter_of(alloc, slot)?;
@@ -156,7 +157,7 @@ fn slot_of(alloc: Global, slot: &Slot) -> Result<DraftSlot, AllocError>
 
 /// The slots of a class.
 pub(crate) fn slots_of(alloc: Global, slots: &Vec<Slot>) -> Result<Vec<DraftSlot>, AllocError>
-    ensures { IfOk result (λ found. map seen_slot found.items ≡ map slot_of slots.now.items) }
+    ensures { IfOk result (λ found. map seen_slot found.items ≡ map slot_of (map slot_tree slots.now.items)) }
 {
     let mut found = Vec::new(alloc);
     for slot in slots {

@@ -2,10 +2,11 @@
 
 ghost use Rattle.std.specs.Prelude.{◌≡◌, map, option_map, IfOk};
 ghost use Rattle.dy_term.specs.Types.{seen_type};
-ghost use Rattle.dy_drafts.specs.Trees.{seen_constant, constants_of, tail_of};
-ghost use Rattle.dy_desugar.specs.Sources.{seen, seen_argument};
+ghost use Rattle.dy_syntax.specs.ConstantTrees.{constants_of, tail_of};
+ghost use Rattle.dy_syntax.specs.SeenTypes.{seen_constant};
+ghost use Rattle.dy_syntax.specs.SeenForms.{seen_tree, seen_argument};
 ghost use Rattle.dy_surface.specs.TypeConstants as spec;
-ghost use Rattle.dy_desugar.specs.Lists.{arguments_in};
+ghost use Rattle.dy_syntax.specs.Trees.{arguments_of};
 
 use dy_desugar::name_in;
 use dy_drafts::{integer_of, literal_of, reads};
@@ -39,7 +40,7 @@ fn only_value(
     word: &Token,
     expression: &Expression,
 ) -> Result<Option<DraftType>, AllocError>
-    ensures { IfOk result (λ found. option_map seen_type found ≡ spec.only_value word.now (seen expression.now)) }
+    ensures { IfOk result (λ found. option_map seen_type found ≡ spec.only_value word.now (seen_tree expression.now)) }
 {
     match expression {
         Expression::Literal(form) => Ok(Some(DraftType::Single(literal_of(alloc, form)?))),
@@ -90,7 +91,7 @@ fn union_type(word: &Token, types: Option<Vec<DraftType>>) -> Result<Option<Draf
 
 /// The number that an expression is, if it is one.
 fn number_in(expression: &Expression) -> Option<i64>
-    ensures { result ≡ spec.number_in (seen expression.now) }
+    ensures { result ≡ spec.number_in (seen_tree expression.now) }
 {
     match expression {
         Expression::Literal(LiteralForm::Int(form)) => Some(integer_of(form)),
@@ -194,7 +195,7 @@ fn form_type(
     arguments: &Vec<Argument>,
     word: &Token,
 ) -> Result<Option<DraftType>, AllocError>
-    ensures { IfOk result (λ found. option_map seen_type found ≡ spec.form_type word.now (map seen_argument arguments.now.items) (spec.types_in (arguments_in (map seen_argument arguments.now.items)))) }
+    ensures { IfOk result (λ found. option_map seen_type found ≡ spec.form_type word.now (map seen_argument arguments.now.items) (spec.types_in (arguments_of (map seen_argument arguments.now.items)))) }
 {
     if is_word(b"singleton", word) {
         singleton_type(alloc, word, arguments)
@@ -211,7 +212,7 @@ fn form_type(
 /// The type that an expression is written as, if it is one.
 #[cycle(types)]
 fn type_in(alloc: Global, expression: &Expression) -> Result<Option<DraftType>, AllocError>
-    ensures { IfOk result (λ found. option_map seen_type found ≡ spec.type_in (seen expression.now)) }
+    ensures { IfOk result (λ found. option_map seen_type found ≡ spec.type_in (seen_tree expression.now)) }
 {
     match expression {
         Expression::Name(token) => Ok(Some(DraftType::Name(token.copy()?))),
@@ -229,7 +230,7 @@ fn type_in(alloc: Global, expression: &Expression) -> Result<Option<DraftType>, 
 /// The types that arguments are, if all are types.
 #[cycle(types)]
 fn types_in(alloc: Global, arguments: &Vec<Argument>) -> Result<Option<Vec<DraftType>>, AllocError>
-    ensures { IfOk result (λ found. option_map (λ types. map seen_type types.items) found ≡ spec.types_in (arguments_in (map seen_argument arguments.now.items))) }
+    ensures { IfOk result (λ found. option_map (λ types. map seen_type types.items) found ≡ spec.types_in (arguments_of (map seen_argument arguments.now.items))) }
 {
     let mut types = Vec::new(alloc);
     for argument in arguments {
@@ -257,7 +258,7 @@ pub(crate) fn constant_type(
     alloc: Global,
     expression: &Expression,
 ) -> Result<Option<DraftType>, AllocError>
-    ensures { IfOk result (λ found. option_map seen_type found ≡ spec.constant_type (seen expression.now)) }
+    ensures { IfOk result (λ found. option_map seen_type found ≡ spec.constant_type (seen_tree expression.now)) }
 {
     match expression {
         Expression::Call { .. } => type_in(alloc, expression),

@@ -127,14 +127,14 @@ vector_reads : (bracket : Bracket) (outer : Outer) (opener : Token) (inner : See
 vector_reads bracket outer opener inner items within is e = rw is (ap (λ (o : Option (List Constant)). option_map (in_brackets outer) (option_map (vector_tree opener) o)) e)
 
 element_step : (inner : SeenFragments) (outer : Outer) (object index : Tree) (opener closer : Token) → bracket_of opener closer ≡ square → expression_in nothing inner ≡ Some index
-    → group_behind (object, outer) (bracket_of opener closer) (tree_inside (bracket_of opener closer) opener inner (items_in inner)) (passed_in inner) ≡ Some (indexed (object, outer) index)
+    → group_behind (object, outer) opener (bracket_of opener closer) (tree_inside (bracket_of opener closer) opener inner (items_in inner)) (passed_in inner) ≡ Some (indexed (object, outer) opener index)
 element_step inner outer object index opener closer is e =
-    ap (λ (b : Bracket). group_behind (object, outer) b (tree_inside b opener inner (items_in inner)) (passed_in inner)) is ∙ ap (λ (o : Option Tree). option_map (indexed (object, outer)) o) e
+    ap (λ (b : Bracket). group_behind (object, outer) opener b (tree_inside b opener inner (items_in inner)) (passed_in inner)) is ∙ ap (λ (o : Option Tree). option_map (indexed (object, outer) opener) o) e
 
-behind_group : (state : State) (tree : Tree) (outer : Outer) (fragments : Fragments) (bracket : Bracket) (found : Option Tree) (passed : Option (List Argument))
-    → AfterOperand tree outer fragments state → at_group state bracket found passed ≡ group_behind (tree, outer) bracket found passed
-behind_group state tree outer fragments bracket found passed (counts token is role one_only e) = rw (e, is) refl
-behind_group state tree outer fragments bracket found passed (holds e) = rw e refl
+behind_group : (state : State) (tree : Tree) (outer : Outer) (fragments : Fragments) (opener : Token) (bracket : Bracket) (found : Option Tree) (passed : Option (List Argument))
+    → AfterOperand tree outer fragments state → at_group state opener bracket found passed ≡ group_behind (tree, outer) opener bracket found passed
+behind_group state tree outer fragments opener bracket found passed (counts token is role one_only e) = rw (e, is) refl
+behind_group state tree outer fragments opener bracket found passed (holds e) = rw e refl
 
 behind_point : (words : Splitting) (state : State) (tree : Tree) (outer : Outer) (fragments : Fragments) (point : Token) → AfterOperand tree outer fragments state → role_of point ≡ dot → at_token words state point ≡ Some (dotted tree outer)
 behind_point words state tree outer fragments point (counts token is role one_only e) h = rw (e, is) (behind_dot_is (literal (positive token), outer) (integer_part token outer) point (role_of point) h)
@@ -409,8 +409,8 @@ complete words sort fragments (call_operand w function passed before all opener 
     let first = complete words (operand function) before h outer in
     let e = inner_arguments inner passed (complete nothing (arguments passed) (row inner) k) in
     let step : after_item words first.state (item_of (group opener inner closer)) ≡ Some (called (function, outer) passed) =
-    behind_group first.state function outer before (bracket_of opener closer) (tree_inside (bracket_of opener closer) opener inner (items_in inner)) (passed_in inner) first.after
-    ∙ ap (λ (b : Bracket). group_behind (function, outer) b (tree_inside b opener inner (items_in inner)) (passed_in inner)) is ∙ ap (λ (o : Option (List Argument)). option_map (called (function, outer)) o) e in
+    behind_group first.state function outer before opener (bracket_of opener closer) (tree_inside (bracket_of opener closer) opener inner (items_in inner)) (passed_in inner) first.after
+    ∙ ap (λ (b : Bracket). group_behind (function, outer) opener b (tree_inside b opener inner (items_in inner)) (passed_in inner)) is ∙ ap (λ (o : Option (List Argument)). option_map (called (function, outer)) o) e in
     record {
       state = has (call function (arguments_of passed)) outer;
       read = ap (reads words (wants outer)) parts ∙ reads_on words before (group opener inner closer ∷ []) (wants outer) first.state first.read ∙ read_one words first.state (group opener inner closer) _ step;
@@ -419,11 +419,11 @@ complete words sort fragments (call_operand w function passed before all opener 
 complete words sort fragments (element_operand w object index before all opener inner closer parts is h k) = λ outer.
     let first = complete words (operand object) before h outer in
     let e = inner_expression inner index (complete nothing (expression index) (row inner) k whole tt) in
-    let step : after_item words first.state (item_of (group opener inner closer)) ≡ Some (indexed (object, outer) index) =
-    behind_group first.state object outer before (bracket_of opener closer) (tree_inside (bracket_of opener closer) opener inner (items_in inner)) (passed_in inner) first.after
-    ∙ ap (λ (b : Bracket). group_behind (object, outer) b (tree_inside b opener inner (items_in inner)) (passed_in inner)) is ∙ ap (λ (o : Option Tree). option_map (indexed (object, outer)) o) e in
+    let step : after_item words first.state (item_of (group opener inner closer)) ≡ Some (indexed (object, outer) opener index) =
+    behind_group first.state object outer before opener (bracket_of opener closer) (tree_inside (bracket_of opener closer) opener inner (items_in inner)) (passed_in inner) first.after
+    ∙ ap (λ (b : Bracket). group_behind (object, outer) opener b (tree_inside b opener inner (items_in inner)) (passed_in inner)) is ∙ ap (λ (o : Option Tree). option_map (indexed (object, outer) opener) o) e in
     record {
-      state = has (element object index) outer;
+      state = has (element object opener index) outer;
       read = ap (reads words (wants outer)) parts ∙ reads_on words before (group opener inner closer ∷ []) (wants outer) first.state first.read ∙ read_one words first.state (group opener inner closer) _ step;
       after = holds refl;
     }

@@ -9,7 +9,7 @@ use Rattle.dy_syntax.specs.ConstantTrees.{literal_item, constants_of, tail_of}
 use Rattle.dy_syntax.specs.Trees.{assignment, operation, unary, call, element, member, literal, name, list, no_argument, argument_and, keyword, value}
 use Rattle.dy_syntax.specs.Roles.{nothing, branches, positive, negative}
 use Rattle.dy_syntax.specs.Fragments.{expression_of}
-use Rattle.dy_syntax.specs.Marks.{made, mark, in_round, in_square, comma_mark, dot_mark}
+use Rattle.dy_syntax.specs.Marks.{made, mark, in_round, square_group, comma_mark, dot_mark}
 use Rattle.dy_syntax.specs.Writing.{written}
 
 abbrev named_token : List ℕ → Token
@@ -75,7 +75,7 @@ symbol_called : expression_of nothing (one a ∷ in_round (one (key (codes "k"))
 symbol_called = refl
 
 -- a.b[c]
-members : expression_of nothing (one a ∷ dot_mark ∷ one b ∷ in_square (one c ∷ []) ∷ []) ≡ Some (element (member (name a) b) (name c))
+members : expression_of nothing (one a ∷ dot_mark ∷ one b ∷ square_group (mark (codes "[")) (one c ∷ []) ∷ []) ≡ Some (element (member (name a) b) (mark (codes "[")) (name c))
 members = refl
 
 -- `else` at the top level of an `if`, and elsewhere

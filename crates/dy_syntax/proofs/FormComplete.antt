@@ -353,12 +353,12 @@ define_group : (bracket : Bracket) (define : Token) (inner : SeenFragments) → 
 define_group bracket define inner is = rw is refl
 
 ended_reads : (define closer word : Token) (adjectives : List Token) (inner : SeenFragments) (rest : Fragments) (by : DefineWord) (form : FormTree) → bracket_of define closer ≡ statement define_word → row inner ≡ map one adjectives ++ one word ∷ rest → define_word_of word ≡ by → is_definition by ≡ true → AllNot is_definition_word adjectives
-    → ended_by by define adjectives (items_of rest) ≡ Some form → form_of (group define inner closer ∷ []) ≡ Some form
+    → ended_by by define adjectives word (items_of rest) ≡ Some form → form_of (group define inner closer ∷ []) ≡ Some form
 ended_reads define closer word adjectives inner rest by form is parts by_is defining never e =
     ap (λ (front : FormFront). form_by front (group define inner closer ∷ [])) (define_group (bracket_of define closer) define inner is)
     ∙ ap (λ (items : List Item). option_and_then (ended_definition define) (words_front is_definition_word items)) (items_row inner ∙ ap items_of parts)
     ∙ ap (λ (o : Option WordsFront). option_and_then (ended_definition define) o) (words_complete is_definition_word adjectives word rest never (ap is_definition by_is ∙ defining))
-    ∙ ap (λ (w : DefineWord). ended_by w define adjectives (items_of rest)) by_is ∙ e
+    ∙ ap (λ (w : DefineWord). ended_by w define adjectives word (items_of rest)) by_is ∙ e
 
 named_method_read : (found : Listed) (results : Option ResultTree) (trees : List ItemTree) (token : Token) (after : Fragments) → role_of token ≡ named → Derives nothing (signature found results trees) after → named_items (items_of (one token ∷ after)) ≡ Some (named_of token (method_of found results trees))
 named_method_read found results trees token after role h = first_named (role_of token) role (complete nothing (signature found results trees) after h)
@@ -449,7 +449,7 @@ form_complete form fragments (by_class define closer word token adjectives super
     (ap (λ (b : Bool). if_suits b (class_items define adjectives (items_of (one token ∷ group left within right ∷ after)))) suits ∙ class_complete define word token adjectives superclasses slots left within right after role is_round names s)
 form_complete form fragments (by_method define closer word token adjectives found results trees inner after is parts method suits role h) =
     ended_reads define closer word adjectives inner (one token ∷ after) method_definition form is parts method refl (method_suits adjectives suits)
-    (ap (λ (b : Bool). if_suits b (option_map (method_of_form define adjectives) (named_items (items_of (one token ∷ after))))) suits ∙ ap (option_map (method_of_form define adjectives)) (named_method_read found results trees token after role h))
+    (ap (λ (b : Bool). if_suits b (option_map (method_of_form define adjectives word) (named_items (items_of (one token ∷ after))))) suits ∙ ap (option_map (method_of_form define adjectives word)) (named_method_read found results trees token after role h))
 form_complete form fragments (by_function define closer word token adjectives found results trees inner after is parts function suits role h) =
     ended_reads define closer word adjectives inner (one token ∷ after) function_definition form is parts function refl (function_suits adjectives suits)
     (ap (λ (b : Bool). if_suits b (option_map (function_of_form define adjectives) (named_items (items_of (one token ∷ after))))) suits ∙ ap (option_map (function_of_form define adjectives)) (named_method_read found results trees token after role h))

@@ -210,12 +210,12 @@ class_sound define closer word adjectives inner [] form is parts class suits h e
 class_sound define closer word adjectives inner (first ∷ rest) form is parts class suits (h, k) e = class_at_sound define closer word adjectives inner first.fragment first rest form is parts class suits refl k e
 
 ended_sound : (by : DefineWord) (define closer word : Token) (adjectives : List Token) (inner : SeenFragments) (rest : List Item) (form : FormTree) → define_word_of word ≡ by → bracket_of define closer ≡ statement define_word → row inner ≡ map one adjectives ++ one word ∷ fragments_in rest → ItemsSound rest
-    → ended_by by define adjectives rest ≡ Some form → IsForm form (group define inner closer ∷ [])
+    → ended_by by define adjectives word rest ≡ Some form → IsForm form (group define inner closer ∷ [])
 ended_sound class_definition define closer word adjectives inner rest form is bracket parts h e =
     let (suits, e1) = if_suits_sound (suit_class adjectives) (class_items define adjectives rest) form e in class_sound define closer word adjectives inner rest form bracket parts is suits h e1
 ended_sound method_definition define closer word adjectives inner rest form is bracket parts h e =
-    let (suits, e1) = if_suits_sound (suit_method adjectives) (option_map (method_of_form define adjectives) (named_items rest)) form e in
-    let (found, read, same) = map_some (method_of_form define adjectives) (named_items rest) form e1 in
+    let (suits, e1) = if_suits_sound (suit_method adjectives) (option_map (method_of_form define adjectives word) (named_items rest)) form e in
+    let (found, read, same) = map_some (method_of_form define adjectives word) (named_items rest) form e1 in
     let (after, after_is, role, s) = named_sound rest found h read in
     subst (λ (f : FormTree). IsForm f (group define inner closer ∷ [])) (sym same)
     (by_method define closer word found.token adjectives found.method.found found.method.results found.method.trees inner after bracket (parts ∙ ap (λ (fs : Fragments). map one adjectives ++ one word ∷ fs) after_is) is suits role s)

@@ -58,8 +58,8 @@ form_writes form fragments (by_class define closer word token adjectives supercl
     (subst (AreNames superclasses) (sym (row_pack (written_names superclasses))) (names_write superclasses (row within) names)) (slots_write slots after s)
 form_writes form fragments (by_method define closer word token adjectives found results trees inner after is parts method suits role h) =
     let rest : Fragments = written_signature (parameters_of found results) ++ semicolon_mark ∷ written_body (body_of trees) in
-    let inside : Fragments = map one adjectives ++ word_mark (codes "method") ∷ one token ∷ rest in
-    by_method define (made kinds.Name (codes "end")) (made kinds.Name (codes "method")) token adjectives found results trees (pack inside) rest (statement_closed (begun_by define) closer define_word is) (row_pack inside) refl suits role (writes nothing (signature found results trees) after h)
+    let inside : Fragments = map one adjectives ++ one word ∷ one token ∷ rest in
+    by_method define (made kinds.Name (codes "end")) word token adjectives found results trees (pack inside) rest (statement_closed (begun_by define) closer define_word is) (row_pack inside) method suits role (writes nothing (signature found results trees) after h)
 form_writes form fragments (by_function define closer word token adjectives found results trees inner after is parts function suits role h) =
     let rest : Fragments = written_signature (parameters_of found results) ++ semicolon_mark ∷ written_body (body_of trees) in
     let inside : Fragments = map one adjectives ++ word_mark (codes "function") ∷ one token ∷ rest in

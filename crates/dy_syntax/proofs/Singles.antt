@@ -48,18 +48,18 @@ behind_role assigns alone part token next e = refl
 behind_role dot alone part token next e = refl
 behind_role role alone part token next e = absurd cc
 
-behind_bracket : (bracket : Bracket) (part : Part) (tree : Option Tree) (passed : Option (List Argument)) (next : State) → group_behind part bracket tree passed ≡ Some next → group_begins_operand bracket ≡ false
-behind_bracket round part tree passed next e = refl
-behind_bracket square part tree passed next e = refl
-behind_bracket hidden part tree passed next e = absurd cc
-behind_bracket sharp_round part tree passed next e = absurd cc
-behind_bracket sharp_square part tree passed next e = absurd cc
-behind_bracket (statement kind) part tree passed next e = absurd cc
-behind_bracket special part tree passed next e = absurd cc
+behind_bracket : (bracket : Bracket) (part : Part) (opener : Token) (tree : Option Tree) (passed : Option (List Argument)) (next : State) → group_behind part opener bracket tree passed ≡ Some next → group_begins_operand bracket ≡ false
+behind_bracket round part opener tree passed next e = refl
+behind_bracket square part opener tree passed next e = refl
+behind_bracket hidden part opener tree passed next e = absurd cc
+behind_bracket sharp_round part opener tree passed next e = absurd cc
+behind_bracket sharp_square part opener tree passed next e = absurd cc
+behind_bracket (statement kind) part opener tree passed next e = absurd cc
+behind_bracket special part opener tree passed next e = absurd cc
 
 behind_operand : (tree : Tree) (outer : Outer) (fragment : SeenFragment) (next : State) → after_item nothing (has tree outer) (item_of fragment) ≡ Some next → only_begins_operand fragment ≡ false
 behind_operand tree outer (one token) next e = behind_role (role_of token) (tree, outer) (tree, outer) token next e
-behind_operand tree outer (group opener inner closer) next e = behind_bracket (bracket_of opener closer) (tree, outer) (tree_inside (bracket_of opener closer) opener inner (items_in inner)) (passed_in inner) next e
+behind_operand tree outer (group opener inner closer) next e = behind_bracket (bracket_of opener closer) (tree, outer) opener (tree_inside (bracket_of opener closer) opener inner (items_in inner)) (passed_in inner) next e
 
 first_of : (found : Option State) (rest : List SeenFragment) (next : State) → option_and_then (λ (s : State). reads nothing s rest) found ≡ Some next → (middle : State) × (found ≡ Some middle)
 first_of None rest next e = absurd cc

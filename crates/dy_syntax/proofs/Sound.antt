@@ -301,19 +301,19 @@ called_sound words part (Some passed) opener inner closer all is h (first, middl
     (first, middle ++ group opener inner closer ∷ [], rw parts (simp append_assoc), call_operand words part.0 passed middle (middle ++ group opener inner closer ∷ []) opener inner closer refl is k h, longer_group middle opener inner closer, rest)
 
 indexed_sound : (words : Splitting) (part : Part) (found : Option Tree) (opener : Token) (inner : SeenFragments) (closer : Token) (all : Fragments) → bracket_of opener closer ≡ square → HoldsIf square found opener inner closer → OperandEnds words part all
-    → BeganIf words (option_map (indexed part) found) (all ++ group opener inner closer ∷ [])
+    → BeganIf words (option_map (indexed part opener) found) (all ++ group opener inner closer ∷ [])
 indexed_sound words part None opener inner closer all is h s = tt
 indexed_sound words part (Some index) opener inner closer all is h (first, middle, parts, k, x, rest) =
     (first, middle ++ group opener inner closer ∷ [], rw parts (simp append_assoc), element_operand words part.0 index middle (middle ++ group opener inner closer ∷ []) opener inner closer refl is k h, longer_group middle opener inner closer, rest)
 
 group_behind_sound : (words : Splitting) (bracket : Bracket) (part : Part) (found : Option Tree) (passed : Option (List Argument)) (opener : Token) (inner : SeenFragments) (closer : Token) (all : Fragments)
-    → bracket_of opener closer ≡ bracket → HoldsIf bracket found opener inner closer → InnerArguments passed (row inner) → OperandEnds words part all → BeganIf words (group_behind part bracket found passed) (all ++ group opener inner closer ∷ [])
+    → bracket_of opener closer ≡ bracket → HoldsIf bracket found opener inner closer → InnerArguments passed (row inner) → OperandEnds words part all → BeganIf words (group_behind part opener bracket found passed) (all ++ group opener inner closer ∷ [])
 group_behind_sound words round part found passed opener inner closer all is h k s = called_sound words part passed opener inner closer all is k s
 group_behind_sound words square part found passed opener inner closer all is h k s = indexed_sound words part found opener inner closer all is h s
 group_behind_sound words bracket part found passed opener inner closer all is h k s = tt
 
 pub group_sound : (words : Splitting) (state : State) (found : Option Tree) (passed : Option (List Argument)) (opener : Token) (inner : SeenFragments) (closer : Token) (all : Fragments)
-    → HoldsIf (bracket_of opener closer) found opener inner closer → InnerArguments passed (row inner) → Began words state all → BeganIf words (at_group state (bracket_of opener closer) found passed) (all ++ group opener inner closer ∷ [])
+    → HoldsIf (bracket_of opener closer) found opener inner closer → InnerArguments passed (row inner) → Began words state all → BeganIf words (at_group state opener (bracket_of opener closer) found passed) (all ++ group opener inner closer ∷ [])
 group_sound words (wants outer) found passed opener inner closer all h k s = group_at_operand_sound words (bracket_of opener closer) outer found opener inner closer all refl h s
 group_sound words (counted digits outer) found passed opener inner closer all h k s = group_behind_sound words (bracket_of opener closer) (literal (positive digits), outer) found passed opener inner closer all refl h k (counted_operand words digits outer all s)
 group_sound words (has tree outer) found passed opener inner closer all h k s = group_behind_sound words (bracket_of opener closer) (tree, outer) found passed opener inner closer all refl h k (has_operand words tree outer all s)

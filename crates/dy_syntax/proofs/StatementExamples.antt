@@ -93,7 +93,7 @@ constant_read : form_of (word (codes "define") ∷ word (codes "constant") ∷ a
 constant_read = refl
 
 -- define method a () b end, and with `open`
-method_form_read : form_of (statement_of (codes "define") (word (codes "method") ∷ a ∷ in_round [] ∷ b ∷ []) ∷ []) ≡ Some (method_form (named_token (codes "define")) [] (named_token (codes "a")) (parameters [] None None no_keys None) (alone tree_b))
+method_form_read : form_of (statement_of (codes "define") (word (codes "method") ∷ a ∷ in_round [] ∷ b ∷ []) ∷ []) ≡ Some (method_form (named_token (codes "define")) [] (named_token (codes "method")) (named_token (codes "a")) (parameters [] None None no_keys None) (alone tree_b))
 method_form_read = refl
 
 open_method : form_of (statement_of (codes "define") (word (codes "open") ∷ word (codes "method") ∷ a ∷ in_round [] ∷ b ∷ []) ∷ []) ≡ None

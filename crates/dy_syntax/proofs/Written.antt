@@ -11,14 +11,14 @@ use Rattle.dy_syntax.specs.Trees.{Tree, assignment, operation, unary, call, elem
 use Rattle.dy_syntax.specs.Roles.{Role, integer, symbol, named, minus, role_of, precedence_of, Splitting, nothing, branches, endings, last_part, steps, tests, splits, Keyword, begin_word, if_word, guard_word, statement, bracket_of, positive, negative, begun_by, case_word, select_word, block_word, for_word, method_word}
 use Rattle.dy_syntax.specs.Arguments.{passes_two, is_symbol}
 use Rattle.dy_syntax.specs.Productions.{is_integer, is_integer_role, Sort, leaf, operand, signed, level, expression, argument, some_arguments, arguments, Derives, integer_leaf, character_leaf, string_leaf, boolean_leaf, symbol_leaf, name_leaf, bracket_leaf, leaf_operand, call_operand, element_operand, member_operand, operand_signed, negative_signed, minus_signed, tilde_signed, signed_level, up_level, operation_level, level_expression, assignment_expression, keyword_argument, value_argument, one_argument, more_arguments, no_arguments, all_arguments, list_leaf, vector_leaf, an_item, some_items, a_body, alternatives, begin_leaf, guarded_leaf, if_leaf, by_let, by_handler, by_expression, last_item, more_items, empty_body, separator_body, items_body, ended_body, no_alternatives, by_else, more_alternatives, some_tests, open_body, choices, arms, head, case_leaf, select_leaf, one_test, more_tests, empty_open, items_open, last_arm, more_arms, last_choice, last_choice_arrow, no_arms, some_arms, ended_arms, by_identity, by_test, block_clauses, for_clause, range, for_clauses, for_head, ending_part, block_leaf, for_leaf, no_block_clause, by_afterwards, by_cleanup, by_exception, by_then, by_in, by_from, no_range, step_range, limit_range, last_clause, only_stop, more_clauses, empty_head, some_clauses, no_finally, by_finally, IsExit, no_exit, an_exit, Catches, without_variable, with_variable, list_of, initial, key, more_keys, listed, brackets, signature, local_methods, method_leaf, no_initial, by_initial, plain_key, named_key, no_more_keys, all_keys, key_and_more, last_required, more_required, last_next, more_next, last_rest, more_rest, bare_keys, first_key, empty_brackets, some_listed, by_signature, by_local, last_method, more_methods}
-use Rattle.dy_syntax.specs.Marks.{made, mark, in_round, in_square, assigns_mark, dot_mark, comma_mark, semicolon_mark, word_mark, statement_group, arrow_mark, next_mark, rest_mark, key_mark}
+use Rattle.dy_syntax.specs.Marks.{made, mark, in_round, square_group, assigns_mark, dot_mark, comma_mark, semicolon_mark, word_mark, statement_group, arrow_mark, next_mark, rest_mark, key_mark}
 use Rattle.dy_syntax.specs.Writing.{splits_some, bracketed, operand_bracketed, splits_tree, minus_bracketed, is_minus_role, unary_bracketed, plain, written_arguments, written_rest, written_argument, written, written_operand, written_items, written_tail, written_body, items_behind, written_item, written_alternatives, written_otherwise, written_test, written_arms, written_arm, written_tests, tests_behind, written_remains, joined_choices, joined_clauses, written_exit, written_caught, written_clauses, written_for, written_for_clause, written_limit, written_step, written_stop, written_finally, written_signature, written_keys, first_keys, keys_behind, written_key, written_initial, written_methods, methods_behind, written_method, written_all, written_label}
 use Rattle.dy_syntax.specs.Constants.{in_list, in_vector, IsConstant}
 use Rattle.dy_syntax.proofs.Lists.{row_pack}
 use Rattle.dy_syntax.specs.TypeWriting.{written_type, written_target, written_variable, written_results, written_required, required_joined, next_joined, rest_joined}
 use Rattle.dy_syntax.proofs.TypeWritten.{type_writes, target_writes, type_splits, target_plain, variable_writes, variable_plain, results_write, semicolon_apart, required_writes}
 use Rattle.dy_syntax.proofs.Sound.{raised}
-use Rattle.dy_syntax.proofs.WrittenConstants.{list_closed, vector_closed, statement_closed, constant_writes}
+use Rattle.dy_syntax.proofs.WrittenConstants.{list_closed, vector_closed, square_closed, statement_closed, constant_writes}
 use Rattle.dy_syntax.proofs.ChoiceSound.{no_more_choices}
 use Rattle.dy_syntax.specs.Types.{TypeTree, VariableTree, RequiredTree, IsRequired, ResultTree, an_end}
 
@@ -417,11 +417,11 @@ writes words sort fragments (call_operand w function passed before all opener in
 writes words sort fragments (element_operand w object index before all opener inner closer parts is h k) =
     let f = writes w (operand object) before h in
     let p = inner_tree index ((writes nothing (expression index) (row inner) k).whole_is nothing) in
-    let tree : Tree = element object index in
+    let tree : Tree = element object opener index in
     let d : (v : Splitting) → Derives v (expression tree) (plain tree) =
-    λ v. operand_whole v tree (plain tree) (element_operand v object index (written_operand object) (plain tree) (mark (codes "[")) (pack (written index)) (mark (codes "]")) refl refl
+    λ v. operand_whole v tree (plain tree) (element_operand v object index (written_operand object) (plain tree) opener (pack (written index)) (mark (codes "]")) refl (square_closed (begun_by opener) closer is)
     (leaf_operand v object (written_operand object) (f.operand_is v)) p) in
-    compound tree refl refl (d nothing) d (f.front (in_square (written index) ∷ []))
+    compound tree refl refl (d nothing) d (f.front (square_group opener (written index) ∷ []))
 writes words sort fragments (member_operand w object point token before all parts is_dot is plainly h) = member_writes object token (splits_some token) refl is (writes w (operand object) before h)
 writes words sort fragments (operand_signed w tree all h) = writes w (operand tree) all h
 writes words sort fragments (negative_signed w sign digits is_minus is) =

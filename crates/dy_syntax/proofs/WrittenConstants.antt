@@ -73,6 +73,35 @@ vector_closed (statement kind) closer e = absurd (other_end (is_word (codes "end
 vector_closed sharp_square closer e = refl
 vector_closed special closer e = absurd cc
 
+pub square_closed : (kind : Bracket) (closer : Token) → closed_by kind closer ≡ square → closed_by kind (mark (codes "]")) ≡ square
+square_closed round closer e = absurd (other_end (is_sign (codes ")") closer) e)
+  where
+    other_end : (b : Bool) → cond b round special ≡ square → ⊥
+    other_end true f = cc
+    other_end false f = cc
+square_closed square closer e = refl
+square_closed hidden closer e = absurd (other_end (is_sign [] closer) e)
+  where
+    other_end : (b : Bool) → cond b hidden special ≡ square → ⊥
+    other_end true f = cc
+    other_end false f = cc
+square_closed sharp_round closer e = absurd (other_end (is_sign (codes ")") closer) e)
+  where
+    other_end : (b : Bool) → cond b sharp_round special ≡ square → ⊥
+    other_end true f = cc
+    other_end false f = cc
+square_closed sharp_square closer e = absurd (other_end (is_sign (codes "]") closer) e)
+  where
+    other_end : (b : Bool) → cond b sharp_square special ≡ square → ⊥
+    other_end true f = cc
+    other_end false f = cc
+square_closed (statement kind) closer e = absurd (other_end (is_word (codes "end") closer) e)
+  where
+    other_end : (b : Bool) → cond b (statement kind) special ≡ square → ⊥
+    other_end true f = cc
+    other_end false f = cc
+square_closed special closer e = absurd cc
+
 pub statement_closed : (bracket : Bracket) (closer : Token) (kind : Keyword) → closed_by bracket closer ≡ statement kind → closed_by bracket (made kinds.Name (codes "end")) ≡ statement kind
 statement_closed round closer kind e = absurd (other_end (is_sign (codes ")") closer) e)
   where

@@ -68,7 +68,7 @@ abbrev mutual
   depth (operation precedence left operator right) = 1 + max (depth left) (depth right)
   depth (unary operator operand) = 1 + depth operand
   depth (call function arguments) = 1 + max (depth function) (arguments_depth arguments)
-  depth (element object index) = 1 + max (depth object) (depth index)
+  depth (element object opener index) = 1 + max (depth object) (depth index)
   depth (member object token) = 1 + depth object
   depth (literal form) = 1
   depth (name token) = 1

@@ -29,6 +29,6 @@ form_depth (class_form define adjectives token superclasses slots) = 1 + slots_d
 form_depth (constant_form define target assigned) = 1 + max (target_depth target) (depth assigned)
 form_depth (variable_form define target assigned) = 1 + max (target_depth target) (depth assigned)
 form_depth (generic_form define adjectives token signature) = 1 + parameters_depth signature
-form_depth (method_form define adjectives token signature body) = 1 + max (parameters_depth signature) (body_depth body)
+form_depth (method_form define adjectives word token signature body) = 1 + max (parameters_depth signature) (body_depth body)
 form_depth (function_form define adjectives token signature body) = 1 + max (parameters_depth signature) (body_depth body)
 form_depth (domain_form define token types) = 1 + domain_depth types

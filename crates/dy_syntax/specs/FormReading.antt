@@ -152,8 +152,8 @@ abbrev pub class_items : Token → List Token → List Item → Option FormTree
 class_items define adjectives [] = None
 class_items define adjectives (item ∷ rest) = class_at define adjectives item.fragment rest
 
-abbrev pub method_of_form : Token → List Token → NamedFound → FormTree
-method_of_form define adjectives entry = method_form define adjectives entry.token (parameters_of entry.method.found entry.method.results) (body_of entry.method.trees)
+abbrev pub method_of_form : Token → List Token → Token → NamedFound → FormTree
+method_of_form define adjectives word entry = method_form define adjectives word entry.token (parameters_of entry.method.found entry.method.results) (body_of entry.method.trees)
 
 abbrev pub function_of_form : Token → List Token → NamedFound → FormTree
 function_of_form define adjectives entry = function_form define adjectives entry.token (parameters_of entry.method.found entry.method.results) (body_of entry.method.trees)
@@ -162,15 +162,15 @@ abbrev pub if_suits : Bool → Option FormTree → Option FormTree
 if_suits true found = found
 if_suits false found = None
 
-abbrev pub ended_by : DefineWord → Token → List Token → List Item → Option FormTree
-ended_by class_definition define adjectives rest = if_suits (suit_class adjectives) (class_items define adjectives rest)
-ended_by method_definition define adjectives rest = if_suits (suit_method adjectives) (option_map (method_of_form define adjectives) (named_items rest))
-ended_by function_definition define adjectives rest = if_suits (suit_function adjectives) (option_map (function_of_form define adjectives) (named_items rest))
-ended_by _ define adjectives rest = None
+abbrev pub ended_by : DefineWord → Token → List Token → Token → List Item → Option FormTree
+ended_by class_definition define adjectives word rest = if_suits (suit_class adjectives) (class_items define adjectives rest)
+ended_by method_definition define adjectives word rest = if_suits (suit_method adjectives) (option_map (method_of_form define adjectives word) (named_items rest))
+ended_by function_definition define adjectives word rest = if_suits (suit_function adjectives) (option_map (function_of_form define adjectives) (named_items rest))
+ended_by _ define adjectives word rest = None
 
 -- a definition with an `end`
 abbrev pub ended_definition : Token → WordsFront → Option FormTree
-ended_definition define front = ended_by (define_word_of front.token) define front.adjectives front.rest
+ended_definition define front = ended_by (define_word_of front.token) define front.adjectives front.token front.rest
 
 abbrev pub constant_of_form : Token → TargetTree → Tree → FormTree
 constant_of_form define target assigned = constant_form define target assigned

@@ -35,16 +35,16 @@ abbrev pub written_slots : List SlotTree → List SeenFragment
 written_slots [] = []
 written_slots (first ∷ rest) = written_slot first ++ semicolon_mark ∷ written_slots rest
 
-abbrev pub definition_group : Token → List Token → List ℕ → List SeenFragment → SeenFragment
-definition_group define adjectives word rest = statement_group define (map one adjectives ++ word_mark word ∷ rest)
+abbrev pub definition_group : Token → List Token → SeenFragment → List SeenFragment → SeenFragment
+definition_group define adjectives word rest = statement_group define (map one adjectives ++ word ∷ rest)
 
 -- a whole form
 abbrev pub written_form : FormTree → List SeenFragment
 written_form (expression_form tree) = written tree
-written_form (class_form define adjectives token superclasses slots) = definition_group define adjectives (codes "class") (one token ∷ in_round (written_names superclasses) ∷ written_slots slots) ∷ []
+written_form (class_form define adjectives token superclasses slots) = definition_group define adjectives (word_mark (codes "class")) (one token ∷ in_round (written_names superclasses) ∷ written_slots slots) ∷ []
 written_form (constant_form define target assigned) = one define ∷ word_mark (codes "constant") ∷ (written_target target ++ equals_mark ∷ written assigned)
 written_form (variable_form define target assigned) = one define ∷ word_mark (codes "variable") ∷ (written_target target ++ equals_mark ∷ written assigned)
 written_form (generic_form define adjectives token signature) = one define ∷ (map one adjectives ++ word_mark (codes "generic") ∷ one token ∷ written_signature signature)
-written_form (method_form define adjectives token signature body) = definition_group define adjectives (codes "method") (one token ∷ (written_signature signature ++ semicolon_mark ∷ written_body body)) ∷ []
-written_form (function_form define adjectives token signature body) = definition_group define adjectives (codes "function") (one token ∷ (written_signature signature ++ semicolon_mark ∷ written_body body)) ∷ []
+written_form (method_form define adjectives word token signature body) = definition_group define adjectives (one word) (one token ∷ (written_signature signature ++ semicolon_mark ∷ written_body body)) ∷ []
+written_form (function_form define adjectives token signature body) = definition_group define adjectives (word_mark (codes "function")) (one token ∷ (written_signature signature ++ semicolon_mark ∷ written_body body)) ∷ []
 written_form (domain_form define token types) = one define ∷ word_mark (codes "sealed") ∷ word_mark (codes "domain") ∷ one token ∷ in_round (written_types (types_of types)) ∷ []

@@ -79,7 +79,7 @@ pub data FormTree : Type 0 where
   constant_form : (define : Token) (target : TargetTree) (assigned : Tree) → FormTree
   variable_form : (define : Token) (target : TargetTree) (assigned : Tree) → FormTree
   generic_form : (define : Token) (adjectives : List Token) (token : Token) (parameters : Parameters) → FormTree
-  method_form : (define : Token) (adjectives : List Token) (token : Token) (parameters : Parameters) (body : Body) → FormTree
+  method_form : (define : Token) (adjectives : List Token) (word : Token) (token : Token) (parameters : Parameters) (body : Body) → FormTree
   function_form : (define : Token) (adjectives : List Token) (token : Token) (parameters : Parameters) (body : Body) → FormTree
   domain_form : (define : Token) (token : Token) (types : List TypeTree) → FormTree
 
@@ -90,7 +90,7 @@ pub data IsForm : FormTree → List SeenFragment → Type 0 where
       → AreNames superclasses (row within) → AreSlots slots after → IsForm (class_form define adjectives token superclasses slots) (group define inner closer ∷ [])
   by_method : (define closer word token : Token) (adjectives : List Token) (found : Listed) (results : Option ResultTree) (trees : List ItemTree) (inner : SeenFragments) (after : List SeenFragment)
       → bracket_of define closer ≡ statement define_word → row inner ≡ map one adjectives ++ one word ∷ one token ∷ after → define_word_of word ≡ method_definition → suit_method adjectives ≡ true → role_of token ≡ named
-      → Derives nothing (signature found results trees) after → IsForm (method_form define adjectives token (parameters_of found results) (body_of trees)) (group define inner closer ∷ [])
+      → Derives nothing (signature found results trees) after → IsForm (method_form define adjectives word token (parameters_of found results) (body_of trees)) (group define inner closer ∷ [])
   by_function : (define closer word token : Token) (adjectives : List Token) (found : Listed) (results : Option ResultTree) (trees : List ItemTree) (inner : SeenFragments) (after : List SeenFragment)
       → bracket_of define closer ≡ statement define_word → row inner ≡ map one adjectives ++ one word ∷ one token ∷ after → define_word_of word ≡ function_definition → suit_function adjectives ≡ true → role_of token ≡ named
       → Derives nothing (signature found results trees) after → IsForm (function_form define adjectives token (parameters_of found results) (body_of trees)) (group define inner closer ∷ [])

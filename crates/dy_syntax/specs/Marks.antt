@@ -20,9 +20,6 @@ enclosed opener closer fragments = group (mark opener) (pack fragments) (mark cl
 abbrev pub in_round : List SeenFragment → SeenFragment
 in_round fragments = enclosed (codes "(") (codes ")") fragments
 
-abbrev pub in_square : List SeenFragment → SeenFragment
-in_square fragments = enclosed (codes "[") (codes "]") fragments
-
 abbrev pub written_integer : Option Token → Token → List SeenFragment
 written_integer None digits = one digits ∷ []
 written_integer (Some sign) digits = one sign ∷ one digits ∷ []
@@ -43,12 +40,12 @@ dot_mark = one (mark (codes "."))
 abbrev pub comma_mark : SeenFragment
 comma_mark = one (mark (codes ","))
 
--- a list and a vector keep their opener
+-- a list, a vector and the index of an element keep their opener
 abbrev pub list_group : Token → List SeenFragment → SeenFragment
 list_group opener fragments = group opener (pack fragments) (mark (codes ")"))
 
-abbrev pub vector_group : Token → List SeenFragment → SeenFragment
-vector_group opener fragments = group opener (pack fragments) (mark (codes "]"))
+abbrev pub square_group : Token → List SeenFragment → SeenFragment
+square_group opener fragments = group opener (pack fragments) (mark (codes "]"))
 
 abbrev pub semicolon_mark : SeenFragment
 semicolon_mark = one (mark (codes ";"))

@@ -188,7 +188,7 @@ pub data Derives : Splitting → Sort → List SeenFragment → Type 0 where
       → Derives words (operand function) before → Derives nothing (arguments passed) (row inner) → Derives words (operand (call function (arguments_of passed))) all
   element_operand : (words : Splitting) (object index : Tree) (before all : List SeenFragment) (opener : Token) (inner : SeenFragments) (closer : Token)
       → all ≡ before ++ group opener inner closer ∷ [] → bracket_of opener closer ≡ square
-      → Derives words (operand object) before → Derives nothing (expression index) (row inner) → Derives words (operand (element object index)) all
+      → Derives words (operand object) before → Derives nothing (expression index) (row inner) → Derives words (operand (element object opener index)) all
   member_operand : (words : Splitting) (object : Tree) (point token : Token) (before all : List SeenFragment)
       → all ≡ before ++ one point ∷ one token ∷ [] → role_of point ≡ dot → role_of token ≡ named → splits words token ≡ false
       → Derives words (operand object) before → Derives words (operand (member object token)) all

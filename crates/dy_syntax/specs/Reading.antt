@@ -109,16 +109,16 @@ at_token words (dotted tree outer) token = behind_dot words tree outer token (ro
 abbrev pub in_brackets : Outer → Tree → State
 in_brackets outer tree = has tree outer
 
-abbrev pub indexed : Part → Tree → State
-indexed part index = has (element part.0 index) part.1
+abbrev pub indexed : Part → Token → Tree → State
+indexed part opener index = has (element part.0 opener index) part.1
 
 abbrev pub called : Part → List Argument → State
 called part passed = has (call part.0 (arguments_of passed)) part.1
 
-abbrev pub group_behind : Part → Bracket → Option Tree → Option (List Argument) → Option State
-group_behind part round tree passed = option_map (called part) passed
-group_behind part square tree passed = option_map (indexed part) tree
-group_behind part _ tree passed = None
+abbrev pub group_behind : Part → Token → Bracket → Option Tree → Option (List Argument) → Option State
+group_behind part opener round tree passed = option_map (called part) passed
+group_behind part opener square tree passed = option_map (indexed part opener) tree
+group_behind part opener _ tree passed = None
 
 abbrev pub group_at_operand : Outer → Bracket → Option Tree → Option State
 group_at_operand outer round tree = option_map (in_brackets outer) tree
@@ -128,12 +128,12 @@ group_at_operand outer sharp_square tree = option_map (in_brackets outer) tree
 group_at_operand outer (statement kind) tree = option_map (in_brackets outer) tree
 group_at_operand outer _ tree = None
 
--- a group, whose inside is this expression and these arguments
-abbrev pub at_group : State → Bracket → Option Tree → Option (List Argument) → Option State
-at_group (wants outer) bracket tree passed = group_at_operand outer bracket tree
-at_group (counted digits outer) bracket tree passed = group_behind (literal (positive digits), outer) bracket tree passed
-at_group (has tree outer) bracket inner passed = group_behind (tree, outer) bracket inner passed
-at_group (dotted tree outer) bracket inner passed = None
+-- a group behind this opener, whose inside is this expression and these arguments
+abbrev pub at_group : State → Token → Bracket → Option Tree → Option (List Argument) → Option State
+at_group (wants outer) opener bracket tree passed = group_at_operand outer bracket tree
+at_group (counted digits outer) opener bracket tree passed = group_behind (literal (positive digits), outer) opener bracket tree passed
+at_group (has tree outer) opener bracket inner passed = group_behind (tree, outer) opener bracket inner passed
+at_group (dotted tree outer) opener bracket inner passed = None
 
 abbrev pub finished_part : Part → Tree
 finished_part part = finished part.0 part.1
@@ -195,7 +195,7 @@ or_else None others = others
 -- a fragment after this state
 abbrev pub after_fragment : Splitting → State → SeenFragment → Found → Option State
 after_fragment words state (one token) found = at_token words state token
-after_fragment words state (group opener inner closer) found = at_group state (bracket_of opener closer) found.tree found.passed
+after_fragment words state (group opener inner closer) found = at_group state opener (bracket_of opener closer) found.tree found.passed
 
 abbrev pub after_item : Splitting → State → Item → Option State
 after_item words state item = after_fragment words state item.fragment item.found

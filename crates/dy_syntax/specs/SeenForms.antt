@@ -34,7 +34,7 @@ abbrev mutual
   seen_tree (expressions.Power' p left operator q right) = trees.operation power (seen_tree left) operator (seen_tree right)
   seen_tree (expressions.Unary' operator p operand) = trees.unary operator (seen_tree operand)
   seen_tree (expressions.Call' p function shape arguments) = trees.call (seen_tree function) (seen_arguments arguments)
-  seen_tree (expressions.Element' p object opener q index) = trees.element (seen_tree object) (seen_tree index)
+  seen_tree (expressions.Element' p object opener q index) = trees.element (seen_tree object) opener (seen_tree index)
   seen_tree (expressions.Member' p object token) = trees.member (seen_tree object) token
   seen_tree (expressions.Literal form) = trees.literal form
   seen_tree (expressions.Name token) = trees.name token
@@ -165,6 +165,6 @@ seen_form (forms.Class define adjectives token superclasses slots) = written.cla
 seen_form (forms.Constant define target value) = written.constant_form define (seen_target target) (seen_tree value)
 seen_form (forms.Variable define target value) = written.variable_form define (seen_target target) (seen_tree value)
 seen_form (forms.Generic define adjectives token signature) = written.generic_form define adjectives.items token (seen_parameters signature)
-seen_form (forms.Method define adjectives word token signature body) = written.method_form define adjectives.items token (seen_parameters signature) (trees.body_of (seen_items body.items))
+seen_form (forms.Method define adjectives word token signature body) = written.method_form define adjectives.items word token (seen_parameters signature) (trees.body_of (seen_items body.items))
 seen_form (forms.Function define adjectives token signature body) = written.function_form define adjectives.items token (seen_parameters signature) (trees.body_of (seen_items body.items))
 seen_form (forms.Domain define token found) = written.domain_form define token (map seen_type found.items)

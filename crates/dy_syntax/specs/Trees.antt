@@ -12,7 +12,7 @@ mutual
     operation : (precedence : Precedence) (left : Tree) (operator : Token) (right : Tree) → Tree
     unary : (operator : Token) (operand : Tree) → Tree
     call : (function : Tree) (arguments : Arguments) → Tree
-    element : (object : Tree) (index : Tree) → Tree
+    element : (object : Tree) (opener : Token) (index : Tree) → Tree
     member : (object : Tree) (name : Token) → Tree
     literal : (value : LiteralForm) → Tree
     name : (token : Token) → Tree

@@ -6,7 +6,7 @@ use Rattle.dy_tree.specs.declared.token.Token.{Token}
 use Rattle.dy_tree.specs.declared.types.LiteralForm.{LiteralForm}
 use Rattle.dy_tree.specs.declared.types.LiteralForm.TheVariants as literals
 use Rattle.dy_tree.specs.Fragments.{SeenFragment, one}
-use Rattle.dy_syntax.specs.Marks.{in_round, in_square, written_literal, assigns_mark, dot_mark, comma_mark, list_group, vector_group, semicolon_mark, word_mark, statement_group, equals_mark, handler_mark, arrow_mark, colons_mark, key_mark, all_keys_mark}
+use Rattle.dy_syntax.specs.Marks.{in_round, written_literal, assigns_mark, dot_mark, comma_mark, list_group, square_group, semicolon_mark, word_mark, statement_group, equals_mark, handler_mark, arrow_mark, colons_mark, key_mark, all_keys_mark}
 use Rattle.dy_syntax.specs.TypeWriting.{written_type, written_target, written_variable, written_results, required_joined, next_joined, rest_joined}
 use Rattle.dy_syntax.specs.ConstantTrees.{Constant, literal_item, list_item, vector_item, Constants, no_constant, constant_and, Tail, no_tail, tail}
 use Rattle.dy_syntax.specs.Trees.{Tree, assignment, operation, unary, call, element, member, literal, name, Arguments, no_argument, argument_and, Argument, keyword, value, list, vector, begin_tree, if_tree, guarded, Body, no_item, item_and, ItemTree, let_item, handler_item, expression_item, Alternatives, no_alternative, alternative_and, Alternative, alternative, Otherwise, no_otherwise, otherwise, case_tree, select_tree, MaybeTree, no_tree, some_tree, Arms, no_arm, arm_and, Arm, arm, Tests, no_test, test_and, block_tree, for_tree, BlockClauses, no_clause, clause_and, BlockClause, afterwards_clause, cleanup_clause, exception_clause, ForClauses, no_for_clause, for_clause_and, ForClause, then_clause, in_clause, from_clause, MaybeLimit, no_limit, a_limit, MaybeStop, no_stop, a_stop, method_tree, Parameters, parameters, MaybeKeys, no_keys, some_keys, Keys, no_key, key_and, Key, a_key, LocalMethods, no_method, method_and, LocalMethod, local_method, local_item}
@@ -80,7 +80,7 @@ abbrev mutual
   pub written_constant : Constant → List SeenFragment
   written_constant (literal_item form) = written_literal form
   written_constant (list_item opener items last) = list_group opener (written_items items ++ written_tail last) ∷ []
-  written_constant (vector_item opener items) = vector_group opener (written_items items) ∷ []
+  written_constant (vector_item opener items) = square_group opener (written_items items) ∷ []
 
   pub written_items : Constants → List SeenFragment
   written_items no_constant = []
@@ -129,12 +129,12 @@ abbrev mutual
   plain (operation precedence left operator right) = as_operand left (plain left) ++ one operator ∷ as_operand right (plain right)
   plain (unary operator operand) = one operator ∷ bracketed (unary_bracketed (is_minus_role (role_of operator)) operand) (plain operand)
   plain (call function arguments) = as_operand function (plain function) ++ in_round (written_arguments arguments) ∷ []
-  plain (element object index) = as_operand object (plain object) ++ in_square (as_whole index (plain index)) ∷ []
+  plain (element object opener index) = as_operand object (plain object) ++ square_group opener (as_whole index (plain index)) ∷ []
   plain (member object token) = as_operand object (plain object) ++ dot_mark ∷ one token ∷ []
   plain (literal form) = written_literal form
   plain (name token) = one token ∷ []
   plain (list opener items last) = list_group opener (written_items items ++ written_tail last) ∷ []
-  plain (vector opener items) = vector_group opener (written_items items) ∷ []
+  plain (vector opener items) = square_group opener (written_items items) ∷ []
   plain (begin_tree word body) = statement_group word (written_body body) ∷ []
   plain (if_tree word test body others last) = statement_group word (in_round (as_whole test (plain test)) ∷ (written_body body ++ (written_alternatives others ++ written_otherwise last))) ∷ []
   plain (guarded guard word test body) = statement_group word (in_round (as_whole test (plain test)) ∷ written_body body) ∷ []

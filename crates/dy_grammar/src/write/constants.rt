@@ -3,12 +3,12 @@
 ghost use Rattle.std.specs.Prelude.{◌≡◌, ◌++◌, [], ◌∷◌, map, option_map, OnOk};
 ghost use Rattle.dy_tree.specs.Fragments.{seen_fragments};
 ghost use Rattle.dy_syntax.specs.ConstantTrees.{constants_of, tail_of};
-ghost use Rattle.dy_syntax.specs.Marks.{list_group, vector_group};
+ghost use Rattle.dy_syntax.specs.Marks.{list_group, square_group};
 ghost use Rattle.dy_syntax.specs.Writing.{written_constant, written_items, written_tail};
 ghost use Rattle.dy_syntax.specs.SeenTypes.{seen_constant};
 
 use crate::write::literals::push_literal;
-use crate::write::mark::{push_list_group, push_mark, push_vector_group};
+use crate::write::mark::{push_list_group, push_mark, push_square_group};
 use crate::write::types::push_comma;
 use dy_tree::{ConstantForm, Fragment, Token};
 use std::alloc::{AllocError, Global};
@@ -37,7 +37,7 @@ fn push_constant(
         ConstantForm::Vector { opener, items } => {
             let mut inner = Vec::new(alloc);
             push_items(alloc, items, &mut inner)?;
-            push_vector_group(alloc, out, opener, inner)
+            push_square_group(alloc, out, opener, inner)
         }
     }
 }
@@ -118,9 +118,9 @@ pub fn push_vector(
     items: &Vec<ConstantForm>,
     out: &mut Vec<Fragment>,
 ) -> Result<(), AllocError>
-    ensures { OnOk result (seen_fragments out.new.items ≡ seen_fragments out.old.items ++ vector_group opener.now (written_items (constants_of (map seen_constant items.now.items))) ∷ []) }
+    ensures { OnOk result (seen_fragments out.new.items ≡ seen_fragments out.old.items ++ square_group opener.now (written_items (constants_of (map seen_constant items.now.items))) ∷ []) }
 {
     let mut inner = Vec::new(alloc);
     push_items(alloc, items, &mut inner)?;
-    push_vector_group(alloc, out, opener, inner)
+    push_square_group(alloc, out, opener, inner)
 }

@@ -11,8 +11,8 @@ pub use crate::write::bodies::push_body;
 use crate::write::brackets::{operand_bracketed, splits_tree, unary_bracketed};
 use crate::write::breaks::push_between;
 use crate::write::leaves::{push_leaf, push_operator};
-use crate::write::mark::{push_mark, push_round, push_token};
-use crate::write::marks::{push_square, push_statement};
+use crate::write::mark::{push_mark, push_round, push_square_group, push_token};
+use crate::write::marks::push_statement;
 pub use crate::write::parameters::{push_initial, push_signature};
 use crate::write::statements::{push_before_body, push_behind_body, push_main_body};
 use dy_tree::{Argument, Expression, Fragment};
@@ -125,10 +125,10 @@ fn push_behind_first(
             push_arguments(alloc, arguments, &mut inner)?;
             push_round(alloc, out, inner)
         }
-        Expression::Element { index, .. } => {
+        Expression::Element { opener, index, .. } => {
             let mut inner = Vec::new(alloc);
             push_whole(alloc, index, &mut inner)?;
-            push_square(alloc, out, inner)
+            push_square_group(alloc, out, opener, inner)
         }
         Expression::Member { name, .. } => {
             push_mark(alloc, out, b".")?;

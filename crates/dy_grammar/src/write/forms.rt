@@ -58,6 +58,20 @@ fn push_head(
     push_token(out, name.copy()?)
 }
 
+/// Adds the adjectives of a method's definition, its word, which is kept, and its name.
+fn push_method_head(
+    adjectives: &Vec<Token>,
+    word: &Token,
+    name: &Token,
+    out: &mut Vec<Fragment>,
+) -> Result<(), AllocError>
+    ensures { OnOk result (seen_fragments out.new.items ≡ seen_fragments out.old.items ++ (map one adjectives.now.items ++ one word.now ∷ one name.now ∷ [])) }
+{
+    push_adjectives(adjectives, out)?;
+    push_token(out, word.copy()?)?;
+    push_token(out, name.copy()?)
+}
+
 /// Adds the parameters and the body of a method or a function.
 fn push_code(
     alloc: Global,
@@ -132,15 +146,16 @@ fn push_method(
     alloc: Global,
     define: &Token,
     adjectives: &Vec<Token>,
+    word: &Token,
     name: &Token,
     parameters: &Parameters,
     body: &Vec<Item>,
     out: &mut Vec<Fragment>,
 ) -> Result<(), AllocError>
-    ensures { OnOk result (seen_fragments out.new.items ≡ seen_fragments out.old.items ++ written_form (method_form define.now adjectives.now.items name.now (seen_parameters parameters.now) (body_of (map seen_item body.now.items)))) }
+    ensures { OnOk result (seen_fragments out.new.items ≡ seen_fragments out.old.items ++ written_form (method_form define.now adjectives.now.items word.now name.now (seen_parameters parameters.now) (body_of (map seen_item body.now.items)))) }
 {
     let mut inner = Vec::new(alloc);
-    push_head(alloc, adjectives, b"method", name, &mut inner)?;
+    push_method_head(adjectives, word, name, &mut inner)?;
     push_code(alloc, parameters, body, &mut inner)?;
     push_definition(alloc, define, inner, out)
 }
@@ -214,11 +229,11 @@ fn push_form(alloc: Global, form: &Form, out: &mut Vec<Fragment>) -> Result<(), 
         Form::Method {
             define,
             adjectives,
+            word,
             name,
             parameters,
             body,
-            ..
-        } => push_method(alloc, define, adjectives, name, parameters, body, out),
+        } => push_method(alloc, define, adjectives, word, name, parameters, body, out),
         Form::Function {
             define,
             adjectives,

@@ -114,14 +114,14 @@ pub fn push_list_group(
     push_group(out, opener, inner, closer)
 }
 
-/// Adds the group of a vector, which keeps its opener.
-pub fn push_vector_group(
+/// Adds the group of a vector or of an index, which keeps its opener.
+pub fn push_square_group(
     alloc: Global,
     out: &mut Vec<Fragment>,
     opener: &Token,
     inner: Vec<Fragment>,
 ) -> Result<(), AllocError>
-    ensures { OnOk result (seen_fragments out.new.items ≡ seen_fragments out.old.items ++ spec.vector_group opener.now (seen_fragments inner.items) ∷ []) }
+    ensures { OnOk result (seen_fragments out.new.items ≡ seen_fragments out.old.items ++ spec.square_group opener.now (seen_fragments inner.items) ∷ []) }
 {
     let opener = opener.copy()?;
     let closer = made(alloc, TokenKind::Punctuation, b"]")?;

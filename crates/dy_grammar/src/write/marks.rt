@@ -2,7 +2,7 @@
 
 ghost use Rattle.std.specs.Prelude.{◌≡◌, ◌++◌, ◌∷◌, [], OnOk};
 ghost use Rattle.dy_tree.specs.Fragments.{seen_fragments};
-ghost use Rattle.dy_syntax.specs.Marks.{assigns_mark, equals_mark, in_square, statement_group};
+ghost use Rattle.dy_syntax.specs.Marks.{assigns_mark, equals_mark, statement_group};
 
 use crate::write::mark::{made, push_group, push_token};
 use dy_tree::{Fragment, Token, TokenKind};
@@ -22,19 +22,6 @@ pub fn push_equals(alloc: Global, out: &mut Vec<Fragment>) -> Result<(), AllocEr
 {
     let token = made(alloc, TokenKind::Operator, b"=")?;
     push_token(out, token)
-}
-
-/// Adds square brackets with these fragments in them.
-pub fn push_square(
-    alloc: Global,
-    out: &mut Vec<Fragment>,
-    inner: Vec<Fragment>,
-) -> Result<(), AllocError>
-    ensures { OnOk result (seen_fragments out.new.items ≡ seen_fragments out.old.items ++ in_square (seen_fragments inner.items) ∷ []) }
-{
-    let opener = made(alloc, TokenKind::Punctuation, b"[")?;
-    let closer = made(alloc, TokenKind::Punctuation, b"]")?;
-    push_group(out, opener, inner, closer)
 }
 
 /// Adds a statement: its word, these fragments, and `end`.

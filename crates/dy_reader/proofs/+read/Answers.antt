@@ -731,10 +731,10 @@ expressions::after_argument-returns-in_ok-found-in-Group t c =
     let passed = passed_items (items_of inner) in
     let begins = c.begins_value-begins.result in
     read_as (option_map seen_passing) c.group.result _ _
-    (ahead_read begins reader bracket (option_map read_grown found.tree) tree (option_map read_passed found.passed) passed
+    (ahead_read begins reader c.in-Group.opener.now bracket (option_map read_grown found.tree) tree (option_map read_passed found.passed) passed
     (c.in_ok-found-in-Group.ensures.tree ∙ ap (λ (need : Need). option_map capped (tree_if need tree)) c.need-need.ensures)
     (c.in_ok-found-in-Group.ensures.passed ∙ ap (λ (need : Need). option_map (map (changed_argument capping)) (passed_if need passed)) c.need-need.ensures)
-    ∙ ap (λ (is : Bool). option_map (changed_passing capping) (value_group (ahead is reader) bracket tree passed)) c.begins_value-begins.ensures
+    ∙ ap (λ (is : Bool). option_map (changed_passing capping) (value_group (ahead is reader) c.in-Group.opener.now bracket tree passed)) c.begins_value-begins.ensures
     ∙ ap (λ (part : SeenPart). option_map (changed_passing capping) (reader_at (begins_value fragment) reader part)) is ∙ ap (option_map (changed_passing capping)) (sym (reader_part reader fragment))) c.group.ensures
 
 pub expressions::after_fragment-returns-in-One : goal.expressions::after_fragment-returns-in-One
@@ -758,7 +758,7 @@ expressions::after_fragment-returns-in_ok-found-in-Group t c =
     let tree = tree_inside bracket c.in-Group.opener.now (pack inner) (items_of inner) in
     let passed = passed_items (items_of inner) in
     read_as (option_map seen_machine) c.group.result _ _
-    (machine_read state bracket (option_map read_grown found.tree) tree (option_map read_passed found.passed) passed
+    (machine_read state c.in-Group.opener.now bracket (option_map read_grown found.tree) tree (option_map read_passed found.passed) passed
     (c.in_ok-found-in-Group.ensures.tree ∙ ap (λ (need : Need). option_map capped (tree_if need tree)) c.need-need.ensures)
     (c.in_ok-found-in-Group.ensures.passed ∙ ap (λ (need : Need). option_map (map (changed_argument capping)) (passed_if need passed)) c.need-need.ensures)
     ∙ ap (λ (part : SeenPart). option_map (changed_state capping) (state_at words state part)) is ∙ ap (option_map (changed_state capping)) (sym (state_part words state fragment))) c.group.ensures

@@ -1,6 +1,7 @@
-use Rattle.std.proofs.Common.{◌≡◌, drop}
+use Rattle.std.proofs.Common.{◌≡◌, drop, map}
+use Rattle.dy_syntax.specs.SeenForms.{seen_option}
 use Rattle.dy_surface.specs.Forms.{written_setter}
 use Rattle.dy_surface.proofs.slots.written_setter.Given as goal
 
 abbrev pub invariant-loop-option : goal.invariant-loop-option
-invariant-loop-option l = written_setter (drop l.option-index l.options) ≡ written_setter l.options
+invariant-loop-option l = written_setter (map seen_option (drop l.option-index l.options)) ≡ written_setter (map seen_option l.options)

@@ -1,8 +1,8 @@
 use Rattle.std.proofs.Common.{◌≡◌, ◌+◌, ◌*◌, ◌++◌, map, drop}
 use Rattle.std.specs.Prelude.{option_map}
 use Rattle.dy_term.specs.Types.{seen_type}
-use Rattle.dy_desugar.specs.Sources.{seen_argument}
-use Rattle.dy_desugar.specs.Lists.{arguments_in}
+use Rattle.dy_syntax.specs.SeenForms.{seen_argument}
+use Rattle.dy_syntax.specs.Trees.{arguments_of}
 use Rattle.dy_surface.specs.TypeConstants.{types_in}
 use Rattle.dy_surface.proofs.type_constants.+types.Given as goal
 
@@ -22,4 +22,4 @@ decreases-argument_type l = 3 * goal.size-argument_type l + 0
 -- the types so far and those of the arguments that are left
 abbrev pub invariant-types_in-loop-argument : goal.invariant-types_in-loop-argument
 invariant-types_in-loop-argument l =
-    option_map (λ rest. map seen_type l.types.items ++ rest) (types_in (arguments_in (map seen_argument (drop l.argument-index l.argument-items)))) ≡ types_in (arguments_in (map seen_argument l.argument-items))
+    option_map (λ rest. map seen_type l.types.items ++ rest) (types_in (arguments_of (map seen_argument (drop l.argument-index l.argument-items)))) ≡ types_in (arguments_of (map seen_argument l.argument-items))

@@ -8,4 +8,4 @@ use Rattle.dy_expression.proofs.PassingSteps.{within_is}
 use Rattle.dy_expression.proofs.passing.Value.group.Goals as goal
 
 pub returns : goal.returns
-returns c = c.with_machine.ensures ∙ within_is c.args.self.passed c.args.self.keyword _ (reading.at_group (seen_machine c.args.self.machine) (seen_bracket c.args.bracket) (option_map read_grown c.args.tree) (option_map read_passed c.args.arguments)) c.in_ok-next.ensures
+returns c = c.with_machine.ensures ∙ within_is c.args.self.passed c.args.self.keyword _ (reading.at_group (seen_machine c.args.self.machine) c.args.opener.now (seen_bracket c.args.bracket) (option_map read_grown c.args.tree) (option_map read_passed c.args.arguments)) c.in_ok-next.ensures

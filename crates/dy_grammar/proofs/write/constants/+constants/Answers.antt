@@ -3,7 +3,7 @@ use Rattle.dy_tree.specs.declared.types.ConstantForm.TheViews.{the_lemmas}
 use Rattle.dy_tree.specs.declared.fragment.Fragment.{Fragment}
 use Rattle.dy_tree.specs.Fragments.{seen_fragments}
 use Rattle.dy_syntax.specs.ConstantTrees.{constants_of, tail_of}
-use Rattle.dy_syntax.specs.Marks.{comma_mark, list_group, vector_group}
+use Rattle.dy_syntax.specs.Marks.{comma_mark, list_group, square_group}
 use Rattle.dy_syntax.specs.SeenTypes.{seen_constant}
 use Rattle.dy_syntax.specs.Writing.{written_constant, written_items, written_tail}
 use Rattle.dy_grammar.proofs.Rows.{inner_constants, inner_tail}
@@ -22,11 +22,11 @@ push_constant-returns-in_ok-push_boxed_tail-in-List t c =
 
 pub push_constant-returns-in_ok-push_items-in-Vector : goal.push_constant-returns-in_ok-push_items-in-Vector
 push_constant-returns-in_ok-push_items-in-Vector t c =
-    let from : written_constant (seen_constant c.args.form.now) ≡ vector_group c.in-Vector.opener (written_items (constants_of (map seen_constant c.in-Vector.items.items))) ∷ [] = rw c.in-Vector.is (search (rules, the_lemmas, inner_constants)) in
+    let from : written_constant (seen_constant c.args.form.now) ≡ square_group c.in-Vector.opener (written_items (constants_of (map seen_constant c.in-Vector.items.items))) ∷ [] = rw c.in-Vector.is (search (rules, the_lemmas, inner_constants)) in
     let inner : seen_fragments c.push_items-in-Vector.new.out.items ≡ written_items (constants_of (map seen_constant c.in-Vector.items.items)) =
     c.in_ok-push_items-in-Vector.ensures ∙ ap (λ (fragments : List Fragment). seen_fragments fragments ++ written_items (constants_of (map seen_constant c.in-Vector.items.items))) c.new-inner-in-Vector.ensures.items
     in
-    rw (from, sym inner) c.push_vector_group.ensures
+    rw (from, sym inner) c.push_square_group.ensures
 
 pub push_items-loop-form-preserved : goal.push_items-loop-form-preserved
 push_items-loop-form-preserved t c =

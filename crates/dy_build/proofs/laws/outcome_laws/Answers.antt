@@ -1,0 +1,5 @@
+use Rattle.dy_build.proofs.Uniqueness.{outcome_one}
+use Rattle.dy_build.proofs.laws.outcome_laws.Goals as goal
+
+pub returns : goal.returns
+returns c = record { one = outcome_one }
