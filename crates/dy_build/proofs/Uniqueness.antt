@@ -6,8 +6,8 @@ use Rattle.dy_io.specs.Files.{FileMap}
 use Rattle.dy_lexer.specs.declared.source.Lid.{Lid}
 use Rattle.dy_lexer.specs.Sources.{lid_of, IsLid, IsLidFault, Reads, Refuses}
 use Rattle.dy_lexer.proofs.LidFile.{lid_reads, lid_refuses}
-use Rattle.dy_sources.proofs.Readings.{given, gives, both_read, both_refused, read_or_refused}
-use Rattle.dy_sources.proofs.Uniqueness.{verdict_one}
+use Rattle.dy_judge.proofs.Readings.{given, gives, both_read, both_refused, read_or_refused}
+use Rattle.dy_judge.proofs.Uniqueness.{verdict_one}
 use Rattle.dy_build.specs.Layout.{is_file_name, source_name}
 use Rattle.dy_build.specs.Words.{Build, build_of}
 use Rattle.dy_build.specs.Outcome.{Source, absent, too_long, text, source_at, Verdict, refused, File, file, located, located_verdict, JudgesTexts, JudgesFiles, JudgesIf, JudgesNames, JudgesLid, JudgesSource, IsVerdict, Report, build_report, IsCommand, IsOutcome}

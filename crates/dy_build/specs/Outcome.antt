@@ -8,7 +8,7 @@ use Rattle.dy_io.specs.Files.{FileMap}
 use Rattle.dy_lexer.specs.declared.source.Lid.{Lid}
 use Rattle.dy_lexer.specs.Sources.{IsLid, IsLidFault}
 use Rattle.dy_runnable.specs.Core.{CoreLibrary}
-use Rattle.dy_sources.specs.Verdicts as sources
+use Rattle.dy_judge.specs.Verdicts as sources
 use Rattle.dy_build.specs.declared.source.File.{File as Held}
 use Rattle.dy_build.specs.declared.refused.Position.{Position}
 use Rattle.dy_build.specs.declared.refused.Refused.{Refused}

@@ -14,9 +14,9 @@ use crate::point::start;
 use crate::refused::{Position, Refused, position_at};
 use dy_base::{Fault, Place, Refusal, Text};
 use dy_io::{Files, Found, ReadFail};
+use dy_judge::judge;
 use dy_lexer::{Lid, read_lid};
 use dy_runnable::Program;
-use dy_sources::judge;
 use std::alloc::{AllocError, Global};
 
 /// A file has at most so many bytes.

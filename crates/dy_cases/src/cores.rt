@@ -6,9 +6,9 @@ mod tables;
 
 use crate::grammar::fragments_of;
 use dy_base::Refusal;
-use dy_grammar::parse;
 use dy_surface::to_core;
 use dy_term::{Draft, DraftTerm, DraftTop};
+use dy_grammar::parse;
 use std::alloc::{AllocError, Global};
 use std::test::Fail;
 

@@ -5,9 +5,9 @@ mod tables;
 
 use dy_base::{Items, Refusal, fold};
 use dy_fragment::group;
-use dy_grammar::{parse, unparse};
 use dy_lexer::lex;
 use dy_tree::{Fragment, MacroKind, Token, TokenKind, Word, Words};
+use dy_grammar::{parse, unparse};
 use std::alloc::{AllocError, Global};
 use std::test::Fail;
 

@@ -10,11 +10,11 @@ use Rattle.dy_tree.specs.declared.expression.BlockClause.{BlockClause}
 use Rattle.dy_tree.specs.declared.expression.BlockClause.TheVariants as blocks
 use Rattle.dy_tree.specs.declared.expression.Item.{Item}
 use Rattle.dy_term.specs.Drafts.{Core, CoreCatch, MaybeCore, nothing, just}
-use Rattle.dy_syntax.specs.SeenTypes.{seen_type}
+use Rattle.dy_rules.specs.SeenTypes.{seen_type}
 use Rattle.dy_drafts.specs.Shapes.{type_of}
-use Rattle.dy_syntax.specs.Trees as source
-use Rattle.dy_syntax.specs.Trees.{BlockClauses, clause_and, afterwards_clause, cleanup_clause, exception_clause}
-use Rattle.dy_syntax.specs.SeenForms.{seen_clause}
+use Rattle.dy_rules.specs.Trees as source
+use Rattle.dy_rules.specs.Trees.{BlockClauses, clause_and, afterwards_clause, cleanup_clause, exception_clause}
+use Rattle.dy_rules.specs.SeenForms.{seen_clause}
 use Rattle.dy_desugar.specs.Table as table
 use Rattle.dy_desugar.specs.Lists.{body_core, block_clauses, own_afterwards, own_cleanup, own_exception}
 use Rattle.dy_desugar.proofs.Rows.{body_items}

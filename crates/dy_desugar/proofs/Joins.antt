@@ -9,7 +9,7 @@ use Rattle.dy_term.specs.Types.{CoreType}
 use Rattle.dy_term.specs.Drafts as core
 use Rattle.dy_term.specs.Drafts.{Core, CoreArm, CoreCatch, CoreClause, CoreLambda, CoreLimit, CoreTest, MaybeCore, cond, choice_of, cores_of, arms_of, catches_of, clauses_of}
 use Rattle.dy_drafts.specs.Parts.{choose, not_core, false_core}
-use Rattle.dy_syntax.specs.SeenForms.{seen_tree, seen_parameters}
+use Rattle.dy_rules.specs.SeenForms.{seen_tree, seen_parameters}
 use Rattle.dy_desugar.specs.Table as table
 use Rattle.dy_desugar.specs.Table.{core_of}
 use Rattle.dy_desugar.specs.Lists.{body_core, parameter_defaults, lambda_core}

@@ -25,10 +25,10 @@ use Rattle.dy_tree.specs.declared.variables.Variable.{Variable}
 use Rattle.dy_term.specs.Drafts as core
 use Rattle.dy_term.specs.Drafts.{Core, cond, choice_of, cores_of, arms_of, select, block, catches_of, for, clauses_of, method, let_methods, methods_of, from_clause}
 use Rattle.dy_term.specs.Types.{integer}
-use Rattle.dy_syntax.specs.SeenTypes.{seen_type, seen_variable}
+use Rattle.dy_rules.specs.SeenTypes.{seen_type, seen_variable}
 use Rattle.dy_drafts.specs.Shapes.{declared_or}
 use Rattle.dy_drafts.specs.Parts.{choose, not_core, false_core, setting, setter_at}
-use Rattle.dy_syntax.specs.SeenForms.{seen_tree, seen_item, seen_for_clause}
+use Rattle.dy_rules.specs.SeenForms.{seen_tree, seen_item, seen_for_clause}
 use Rattle.dy_desugar.specs.Table as table
 use Rattle.dy_desugar.specs.Table.{core_of, name_in}
 use Rattle.dy_desugar.specs.Lists.{tree_core, argument_terms, item_core, body_core, otherwise_core, maybe_body, maybe_tree, maybe_boxed, alternative_core, case_core, arm_core, lambda_core, method_core, block_clauses, for_clause_core, bound_core, stop_core}

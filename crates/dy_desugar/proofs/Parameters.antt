@@ -5,9 +5,9 @@ use Rattle.dy_tree.specs.declared.expression.Argument.TheViews.{the_lemmas}
 use Rattle.dy_tree.specs.declared.expression.Keys.{Keys, Keys', out-Keys}
 use Rattle.dy_tree.specs.declared.expression.Parameters.{Parameters, Parameters', out-Parameters, Held-Parameters-keys, Parameters-keys-None', Parameters-keys-Some', view-Parameters-keys}
 use Rattle.dy_term.specs.Types.{CoreParams, CoreResults}
-use Rattle.dy_syntax.specs.SeenTypes.{seen_required, seen_results}
+use Rattle.dy_rules.specs.SeenTypes.{seen_required, seen_results}
 use Rattle.dy_drafts.specs.Shapes.{required_of, results_of}
-use Rattle.dy_syntax.specs.SeenForms.{seen_parameters, seen_maybe_keys}
+use Rattle.dy_rules.specs.SeenForms.{seen_parameters, seen_maybe_keys}
 use Rattle.dy_desugar.specs.Table as table
 use Rattle.dy_desugar.specs.Lists.{keys_core, keys_all}
 use Rattle.dy_desugar.proofs.Rows.{keys_items}

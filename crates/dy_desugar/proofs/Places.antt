@@ -4,7 +4,7 @@ use Rattle.std.specs.Prelude.{Option, Some, None}
 use Rattle.dy_tree.specs.declared.token.Token.{Token}
 use Rattle.dy_term.specs.Drafts.{Core, no_place}
 use Rattle.dy_drafts.specs.Parts.{setting, setter_at}
-use Rattle.dy_syntax.specs.Trees.{Tree, name, call, Arguments}
+use Rattle.dy_rules.specs.Trees.{Tree, name, call, Arguments}
 use Rattle.dy_desugar.specs.Table.{assignment_of, arguments_of, first_token, name_in}
 
 pub named_setter : (function : Tree) (arguments : Arguments) (token : Token) (place value : Core) → name_in function ≡ Some token → assignment_of (call function arguments) place value ≡ setting (setter_at token) (arguments_of arguments) value

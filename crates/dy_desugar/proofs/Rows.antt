@@ -11,10 +11,10 @@ use Rattle.dy_tree.specs.declared.expression.Keys.{Keys, Keys', out-Keys, Row_of
 use Rattle.dy_tree.specs.declared.expression.Parameters.{Parameters, Parameters', out-Parameters, Held-Parameters-keys, Parameters-keys-None', Parameters-keys-Some', view-Parameters-keys}
 use Rattle.dy_term.specs.Types.{CoreKey}
 use Rattle.dy_term.specs.Drafts.{Core, CoreItem, CoreArm, CoreClause, CoreLambda}
-use Rattle.dy_syntax.specs.SeenTypes.{seen_required, seen_results, seen_variable}
+use Rattle.dy_rules.specs.SeenTypes.{seen_required, seen_results, seen_variable}
 use Rattle.dy_drafts.specs.Shapes.{required_of, results_of, key_of}
-use Rattle.dy_syntax.specs.Trees.{BlockClauses, clause_and, block_clauses_of}
-use Rattle.dy_syntax.specs.SeenForms.{seen_tree, seen_arguments, seen_body, seen_alternatives, seen_arms, seen_tests, seen_clauses, seen_clause, seen_for, seen_for_clause, seen_methods, seen_parameters, seen_maybe_keys, seen_key_row, seen_default, seen_limit, seen_otherwise, seen_test, seen_stop}
+use Rattle.dy_rules.specs.Trees.{BlockClauses, clause_and, block_clauses_of}
+use Rattle.dy_rules.specs.SeenForms.{seen_tree, seen_arguments, seen_body, seen_alternatives, seen_arms, seen_tests, seen_clauses, seen_clause, seen_for, seen_for_clause, seen_methods, seen_parameters, seen_maybe_keys, seen_key_row, seen_default, seen_limit, seen_otherwise, seen_test, seen_stop}
 use Rattle.dy_desugar.specs.Table as table
 use Rattle.dy_desugar.specs.Lists.{tree_core, argument_terms, item_core, body_core, otherwise_core, maybe_body, maybe_tree, maybe_boxed, alternative_core, case_core, arm_core, default_core, key_default, key_core, keys_defaults, parameter_defaults, lambda_core, method_core, for_clause_core, bound_core, stop_core}
 

@@ -1,6 +1,6 @@
 -- Which expressions are translated in the same way.
-use Rattle.dy_syntax.specs.Operators.{unless, while, until}
-use Rattle.dy_syntax.specs.Trees.{Tree, assignment, operation, unary, call, element, member, literal, name, list, vector, begin_tree, method_tree, if_tree, guarded, case_tree, select_tree, block_tree, for_tree}
+use Rattle.dy_rules.specs.Operators.{unless, while, until}
+use Rattle.dy_rules.specs.Trees.{Tree, assignment, operation, unary, call, element, member, literal, name, list, vector, begin_tree, method_tree, if_tree, guarded, case_tree, select_tree, block_tree, for_tree}
 use Rattle.dy_desugar.specs.declared.group.Group.{Group}
 use Rattle.dy_desugar.specs.declared.group.Group.TheVariants.{Operator, Operand, Choice, Loop, Scope}
 

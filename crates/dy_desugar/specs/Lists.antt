@@ -17,12 +17,12 @@ use Rattle.dy_tree.specs.declared.expression.Parameters.{Parameters, out-Paramet
 use Rattle.dy_tree.specs.declared.expression.LocalMethod.{LocalMethod, out-LocalMethod}
 use Rattle.dy_term.specs.Types.{CoreKey}
 use Rattle.dy_term.specs.Drafts.{Core, CoreItem, CoreArm, CoreLambda, CoreClause, CoreLimit, no_limit, a_limit, CoreTest, no_test, a_test, CoreCatch, MaybeCore, nothing, just}
-use Rattle.dy_syntax.specs.SeenTypes.{seen_variable}
+use Rattle.dy_rules.specs.SeenTypes.{seen_variable}
 use Rattle.dy_drafts.specs.Parts.{bodied, false_core, first_or_false, limit_of}
 use Rattle.dy_drafts.specs.Shapes.{reads, key_of, type_of}
-use Rattle.dy_syntax.specs.Trees as source
-use Rattle.dy_syntax.specs.Trees.{BlockClauses, block_clauses_of, afterwards_clause, cleanup_clause, exception_clause}
-use Rattle.dy_syntax.specs.SeenForms.{seen_tree, seen_argument, seen_item, seen_clause, seen_for_clause, seen_parameters}
+use Rattle.dy_rules.specs.Trees as source
+use Rattle.dy_rules.specs.Trees.{BlockClauses, block_clauses_of, afterwards_clause, cleanup_clause, exception_clause}
+use Rattle.dy_rules.specs.SeenForms.{seen_tree, seen_argument, seen_item, seen_clause, seen_for_clause, seen_parameters}
 use Rattle.dy_desugar.specs.Table as table
 
 abbrev pub tree_core : Expression → Core

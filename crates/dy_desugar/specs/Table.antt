@@ -3,9 +3,9 @@ use Rattle.std.specs.Prelude.{ℕ, Bool, true, false, List, [], ◌∷◌, ◌++
 use Rattle.dy_tree.specs.declared.token.Token.{Token}
 use Rattle.dy_tree.specs.declared.types.LiteralForm.{LiteralForm}
 use Rattle.dy_tree.specs.declared.types.LiteralForm.TheVariants as forms
-use Rattle.dy_syntax.specs.Operators.{Precedence, logical, unless, while, until}
-use Rattle.dy_syntax.specs.Trees as source
-use Rattle.dy_syntax.specs.Trees.{Tree, Arguments, Argument, Body, ItemTree, Alternatives, Otherwise, Arms, Tests, MaybeTree, MaybeStop, MaybeLimit, MaybeKeys, Keys, Parameters, LocalMethods, BlockClauses, ForClauses, ForClause}
+use Rattle.dy_rules.specs.Operators.{Precedence, logical, unless, while, until}
+use Rattle.dy_rules.specs.Trees as source
+use Rattle.dy_rules.specs.Trees.{Tree, Arguments, Argument, Body, ItemTree, Alternatives, Otherwise, Arms, Tests, MaybeTree, MaybeStop, MaybeLimit, MaybeKeys, Keys, Parameters, LocalMethods, BlockClauses, ForClauses, ForClause}
 use Rattle.dy_term.specs.Literals as constants
 use Rattle.dy_term.specs.Types.{CoreType, integer, CoreKey, CoreParams, CoreResults}
 use Rattle.dy_term.specs.Drafts.{Core, literal, name, set, no_place, cond, and, or, select, loop, method, block, MaybeCore, nothing, just, CoreItem, run, let_values, let_methods, handler, CoreLambda, lambda, CoreClause, then_clause, in_clause, from_clause, CoreLimit, no_limit, a_limit, CoreTest, no_test, a_test, CoreArm, CoreCatch, cores_of, choice_of, arms_of, methods_of, clauses_of, catches_of}

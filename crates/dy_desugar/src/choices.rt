@@ -2,7 +2,7 @@
 
 ghost use Rattle.std.specs.Prelude.{◌≡◌, ◌∷◌, map, IfOk};
 ghost use Rattle.dy_term.specs.Drafts.{seen_term, seen_pair, seen_arm, seen_option};
-ghost use Rattle.dy_syntax.specs.SeenForms.{seen_tree};
+ghost use Rattle.dy_rules.specs.SeenForms.{seen_tree};
 ghost use Rattle.dy_desugar.specs.Groups as groups;
 ghost use Rattle.dy_desugar.specs.Table as table;
 ghost use Rattle.dy_desugar.specs.Lists.{tree_core, alternative_core, otherwise_core, case_core, arm_core, maybe_boxed};

@@ -3,7 +3,7 @@
 ghost use Rattle.std.specs.Prelude.{◌≡◌, map, flat_map, IfOk};
 ghost use Rattle.dy_term.specs.Drafts.{no_place, seen_term};
 ghost use Rattle.dy_drafts.specs.Parts.{setting, setter_at};
-ghost use Rattle.dy_syntax.specs.SeenForms.{seen_tree};
+ghost use Rattle.dy_rules.specs.SeenForms.{seen_tree};
 ghost use Rattle.dy_desugar.specs.Groups as groups;
 ghost use Rattle.dy_desugar.specs.Table as table;
 ghost use Rattle.dy_desugar.specs.Lists.{argument_terms};

@@ -1,7 +1,7 @@
 //! Where an expression begins.
 
 ghost use Rattle.std.specs.Prelude.{◌≡◌, option_map};
-ghost use Rattle.dy_syntax.specs.SeenForms.{seen_tree};
+ghost use Rattle.dy_rules.specs.SeenForms.{seen_tree};
 ghost use Rattle.dy_desugar.specs.Table.{first_token, literal_token, name_in};
 
 use dy_tree::{Expression, LiteralForm, Token};

@@ -1,7 +1,7 @@
 //! Which expressions are translated in the same way.
 
 ghost use Rattle.std.specs.Prelude.{◌≡◌};
-ghost use Rattle.dy_syntax.specs.SeenForms.{seen_tree};
+ghost use Rattle.dy_rules.specs.SeenForms.{seen_tree};
 ghost use Rattle.dy_desugar.specs.Groups.{group_of};
 
 use dy_tree::Expression;

@@ -4,9 +4,9 @@ ghost use Rattle.std.specs.Prelude.{◌≡◌, map, option_map, IfOk};
 ghost use Rattle.dy_tree.specs.declared.expression.Keys.{out-Keys};
 ghost use Rattle.dy_term.specs.Types.{seen_typed, seen_key, seen_params, seen_results};
 ghost use Rattle.dy_term.specs.Drafts.{seen_term, seen_method, seen_lambda};
-ghost use Rattle.dy_syntax.specs.SeenTypes.{seen_required};
+ghost use Rattle.dy_rules.specs.SeenTypes.{seen_required};
 ghost use Rattle.dy_drafts.specs.Shapes as shapes;
-ghost use Rattle.dy_syntax.specs.SeenForms.{seen_parameters};
+ghost use Rattle.dy_rules.specs.SeenForms.{seen_parameters};
 ghost use Rattle.dy_desugar.specs.Lists.{method_core, parameter_defaults, key_default, key_core, keys_core, keys_all, default_core};
 ghost use Rattle.dy_desugar.specs.Table as table;
 

@@ -2,7 +2,7 @@
 
 ghost use Rattle.std.specs.Prelude.{◌≡◌, map, option_map, IfOk};
 ghost use Rattle.dy_term.specs.Drafts.{block, catches_of, seen_term, seen_option, seen_catch};
-ghost use Rattle.dy_syntax.specs.SeenForms.{seen_tree, seen_clause};
+ghost use Rattle.dy_rules.specs.SeenForms.{seen_tree, seen_clause};
 ghost use Rattle.dy_desugar.specs.Groups as groups;
 ghost use Rattle.dy_desugar.specs.Lists.{block_clauses, own_afterwards, own_cleanup, own_exception};
 ghost use Rattle.dy_desugar.specs.Table as table;

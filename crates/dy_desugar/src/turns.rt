@@ -2,7 +2,7 @@
 
 ghost use Rattle.std.specs.Prelude.{◌≡◌, map, IfOk};
 ghost use Rattle.dy_term.specs.Drafts.{seen_term, seen_option, seen_clause, seen_bound, seen_ending};
-ghost use Rattle.dy_syntax.specs.SeenForms.{seen_tree};
+ghost use Rattle.dy_rules.specs.SeenForms.{seen_tree};
 ghost use Rattle.dy_desugar.specs.Groups as groups;
 ghost use Rattle.dy_desugar.specs.Lists.{for_clause_core, bound_core, maybe_tree, stop_core};
 ghost use Rattle.dy_desugar.specs.Table as table;

@@ -3,7 +3,7 @@
 ghost use Rattle.std.specs.Prelude.{◌≡◌, IfOk};
 ghost use Rattle.dy_term.specs.Types.{integer};
 ghost use Rattle.dy_term.specs.Drafts.{then_clause, in_clause, from_clause, seen_term, seen_option, seen_clause, seen_bound};
-ghost use Rattle.dy_syntax.specs.SeenTypes.{seen_variable};
+ghost use Rattle.dy_rules.specs.SeenTypes.{seen_variable};
 ghost use Rattle.dy_drafts.specs.Shapes.{declared_or, declared_of};
 
 use dy_drafts::{declared_of, declared_or};

@@ -16,8 +16,8 @@ use Rattle.dy_term.specs.declared.literal.Literal.{Literal}
 use Rattle.dy_term.specs.Literals as core
 use Rattle.dy_term.specs.Literals.{seen_literal}
 use Rattle.dy_term.specs.Types.{CoreTypes, type_and, union, types_of}
-use Rattle.dy_syntax.specs.ConstantTrees as source
-use Rattle.dy_syntax.specs.SeenTypes.{seen_constant, seen_constants, seen_tail, seen_type, seen_types}
+use Rattle.dy_rules.specs.ConstantTrees as source
+use Rattle.dy_rules.specs.SeenTypes.{seen_constant, seen_constants, seen_tail, seen_type, seen_types}
 use Rattle.dy_drafts.specs.Shapes as shapes
 use Rattle.dy_drafts.specs.Shapes.{constant_of, list_of, type_of}
 

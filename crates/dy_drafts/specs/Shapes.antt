@@ -10,9 +10,9 @@ use Rattle.dy_tree.specs.declared.token.TokenKind.TheVariants as kinds
 use Rattle.dy_tree.specs.declared.types.IntegerForm.{IntegerForm}
 use Rattle.dy_tree.specs.declared.types.LiteralForm.{LiteralForm}
 use Rattle.dy_tree.specs.declared.types.LiteralForm.TheVariants.{Int, Char, Str, Bool as Truth, Symbol}
-use Rattle.dy_syntax.specs.ConstantTrees as source
-use Rattle.dy_syntax.specs.Types as source_types
-use Rattle.dy_syntax.specs.Types.{Single, literal_single, empty_single, name_single, Bound, TypeTree, named_type, singleton_type, union_type, limited_type, TypeTrees, VariableTree, TargetTree, one_target, several, RequiredTree, required_variable, required_single, ResultTree, one_result, several_results}
+use Rattle.dy_rules.specs.ConstantTrees as source
+use Rattle.dy_rules.specs.Types as source_types
+use Rattle.dy_rules.specs.Types.{Single, literal_single, empty_single, name_single, Bound, TypeTree, named_type, singleton_type, union_type, limited_type, TypeTrees, VariableTree, TargetTree, one_target, several, RequiredTree, required_variable, required_single, ResultTree, one_result, several_results}
 use Rattle.dy_term.specs.declared.draft.Local.{Local}
 use Rattle.dy_term.specs.declared.draft.Local.TheVariants.{Named}
 use Rattle.dy_term.specs.Literals as core

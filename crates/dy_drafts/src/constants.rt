@@ -3,8 +3,8 @@
 ghost use Rattle.std.specs.Prelude.{◌≡◌, map, option_map, IfOk};
 ghost use Rattle.dy_term.specs.Literals as core;
 ghost use Rattle.dy_term.specs.Literals.{seen_literal};
-ghost use Rattle.dy_syntax.specs.ConstantTrees.{constants_of as inner_of, tail_of as end_of};
-ghost use Rattle.dy_syntax.specs.SeenTypes.{seen_constant};
+ghost use Rattle.dy_rules.specs.ConstantTrees.{constants_of as inner_of, tail_of as end_of};
+ghost use Rattle.dy_rules.specs.SeenTypes.{seen_constant};
 ghost use Rattle.dy_drafts.specs.Shapes.{constant_of, constants_of, tail_of, list_of};
 
 use crate::literal::literal_of;

@@ -2,7 +2,7 @@
 
 ghost use Rattle.std.specs.Prelude.{◌≡◌, map, option_map, IfOk};
 ghost use Rattle.dy_term.specs.Types.{seen_type, seen_typed, seen_key, seen_results as seen_draft};
-ghost use Rattle.dy_syntax.specs.SeenTypes.{seen_variable, seen_required, seen_results};
+ghost use Rattle.dy_rules.specs.SeenTypes.{seen_variable, seen_required, seen_results};
 ghost use Rattle.dy_drafts.specs.Shapes.{declared_of, required_of, results_of, keyword_of, key_of};
 
 use crate::types::only_of;

@@ -2,7 +2,7 @@
 
 ghost use Rattle.std.specs.Prelude.{◌≡◌, map, option_map, IfOk};
 ghost use Rattle.dy_term.specs.Types.{seen_type as seen_draft};
-ghost use Rattle.dy_syntax.specs.SeenTypes.{seen_bound, seen_single, seen_type};
+ghost use Rattle.dy_rules.specs.SeenTypes.{seen_bound, seen_single, seen_type};
 ghost use Rattle.dy_drafts.specs.Shapes.{single_of, only_of, bound_of, type_of, declared_or};
 
 use crate::literal::{integer_of, literal_of};

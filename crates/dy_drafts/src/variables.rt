@@ -2,7 +2,7 @@
 
 ghost use Rattle.std.specs.Prelude.{◌≡◌, map, IfOk};
 ghost use Rattle.dy_term.specs.Types.{seen_type, seen_typed};
-ghost use Rattle.dy_syntax.specs.SeenTypes.{seen_variable, seen_target};
+ghost use Rattle.dy_rules.specs.SeenTypes.{seen_variable, seen_target};
 ghost use Rattle.dy_drafts.specs.Shapes.{declared_of, typed_of, local_of, locals_of, rest_of};
 
 use crate::types::declared_or;

@@ -1,11 +1,6 @@
-//! The grammar both ways: fragments are read as trees, and trees are written as fragments.
+//! The grammar both ways: fragments are read as forms (`parse`), and forms are written as fragments
+//! (`unparse`).
 #![tactic(auto)]
 
-mod laws;
-#[cfg(test)]
-mod tests;
-mod write;
-
-pub use dy_parser::parse;
-pub use laws::round_trip_laws;
-pub use write::unparse;
+pub use dy_read_forms::parse;
+pub use dy_writer::{round_trip_laws, unparse};

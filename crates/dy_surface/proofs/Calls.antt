@@ -7,9 +7,9 @@ use Rattle.dy_tree.specs.declared.expression.Argument.{Argument}
 use Rattle.dy_tree.specs.declared.expression.Argument.TheViews.{the_lemmas}
 use Rattle.dy_tree.specs.declared.expression.Expression.{Expression, Row_of-Argument, end_of-Argument, more_of-Argument, items-the_row-Argument}
 use Rattle.dy_tree.specs.declared.expression.Expression.TheVariants.{Call}
-use Rattle.dy_syntax.specs.Trees as source
-use Rattle.dy_syntax.specs.Trees.{Tree, Arguments, arguments_of}
-use Rattle.dy_syntax.specs.SeenForms.{seen_tree, seen_arguments, seen_argument}
+use Rattle.dy_rules.specs.Trees as source
+use Rattle.dy_rules.specs.Trees.{Tree, Arguments, arguments_of}
+use Rattle.dy_rules.specs.SeenForms.{seen_tree, seen_arguments, seen_argument}
 use Rattle.dy_desugar.specs.Table.{name_in}
 use Rattle.dy_surface.specs.TypeConstants.{form_type, listed, type_in, types_in}
 

@@ -3,7 +3,7 @@ use Rattle.std.proofs.Common.{◌≡◌, List, [], ◌∷◌, length, map, refl}
 use Rattle.std.specs.Prelude.{Bool, true, false, if◌then◌else◌, None}
 use Rattle.dy_tree.specs.declared.token.Token.{Token}
 use Rattle.dy_tree.specs.declared.expression.Argument.{Argument}
-use Rattle.dy_syntax.specs.SeenForms.{seen_argument}
+use Rattle.dy_rules.specs.SeenForms.{seen_argument}
 use Rattle.dy_surface.specs.TypeConstants.{limited_type, is_integer_class, bounded}
 
 -- without a bound, with one and with two it may be one

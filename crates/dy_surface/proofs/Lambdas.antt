@@ -2,8 +2,8 @@
 use Rattle.std.proofs.Common.{◌≡◌, List, [], ◌∷◌, map, refl, ap, ◌∙◌}
 use Rattle.dy_tree.specs.declared.expression.Item.{Item}
 use Rattle.dy_tree.specs.declared.expression.Parameters.{Parameters, Parameters', out-Parameters}
-use Rattle.dy_syntax.specs.Trees.{body_of}
-use Rattle.dy_syntax.specs.SeenForms.{seen_items, seen_parameters}
+use Rattle.dy_rules.specs.Trees.{body_of}
+use Rattle.dy_rules.specs.SeenForms.{seen_items, seen_parameters}
 use Rattle.dy_term.specs.Drafts.{Core, CoreItem}
 use Rattle.dy_drafts.specs.Parts.{bodied}
 use Rattle.dy_desugar.specs.Table as table

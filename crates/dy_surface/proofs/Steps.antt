@@ -4,8 +4,8 @@ use Rattle.std.specs.Prelude.{Option, Some, None, option_map}
 use Rattle.std.proofs.lemmas.List.{drop_more, append_assoc}
 use Rattle.dy_tree.specs.declared.expression.Argument.{Argument}
 use Rattle.dy_term.specs.Types.{CoreType}
-use Rattle.dy_syntax.specs.SeenForms.{seen_argument}
-use Rattle.dy_syntax.specs.Trees.{arguments_of}
+use Rattle.dy_rules.specs.SeenForms.{seen_argument}
+use Rattle.dy_rules.specs.Trees.{arguments_of}
 use Rattle.dy_surface.specs.TypeConstants.{types_in, argument_type, both_types}
 
 argument_left : (arguments : List Argument) (i : ℕ) (argument : Argument) → i < length arguments → argument ≡ get_or arguments i argument

@@ -2,9 +2,9 @@
 use Rattle.std.specs.Prelude.{ℕ, Bool, true, false, List, [], ◌∷◌, ◌++◌, ◌||◌, map, length, codes, Option, Some, None, if◌then◌else◌}
 use Rattle.std.specs.Option.{option_map}
 use Rattle.dy_tree.specs.declared.token.Token.{Token}
-use Rattle.dy_syntax.specs.Types.{TypeTree, TargetTree, one_target, several, VariableTree}
-use Rattle.dy_syntax.specs.Trees.{Tree, MaybeTree, no_tree, some_tree, Parameters, parameters, Body}
-use Rattle.dy_syntax.specs.Forms.{SlotOption, init_keyword, required_init_keyword, init_value, init_function, setter, SlotTree, FormTree, expression_form, class_form, constant_form, variable_form, generic_form, method_form, function_form, domain_form}
+use Rattle.dy_rules.specs.Types.{TypeTree, TargetTree, one_target, several, VariableTree}
+use Rattle.dy_rules.specs.Trees.{Tree, MaybeTree, no_tree, some_tree, Parameters, parameters, Body}
+use Rattle.dy_rules.specs.Forms.{SlotOption, init_keyword, required_init_keyword, init_value, init_function, setter, SlotTree, FormTree, expression_form, class_form, constant_form, variable_form, generic_form, method_form, function_form, domain_form}
 use Rattle.dy_term.specs.declared.rows.SlotKind.{SlotKind}
 use Rattle.dy_term.specs.declared.rows.SlotKind.TheVariants.{Instance, Shared, EachSubclass, Virtual}
 use Rattle.dy_term.specs.Types.{CoreType, object}

@@ -4,9 +4,9 @@ use Rattle.dy_tree.specs.declared.token.Token.{Token}
 use Rattle.dy_tree.specs.declared.token.TokenKind.{TokenKind}
 use Rattle.dy_tree.specs.declared.token.TokenKind.TheVariants as kinds
 use Rattle.dy_tree.specs.declared.types.LiteralForm.TheVariants as forms
-use Rattle.dy_syntax.specs.ConstantTrees.{Constants, no_constant, Tail, no_tail}
-use Rattle.dy_syntax.specs.Trees as source
-use Rattle.dy_syntax.specs.Trees.{Tree, Arguments, Argument}
+use Rattle.dy_rules.specs.ConstantTrees.{Constants, no_constant, Tail, no_tail}
+use Rattle.dy_rules.specs.Trees as source
+use Rattle.dy_rules.specs.Trees.{Tree, Arguments, Argument}
 use Rattle.dy_term.specs.Literals as constants
 use Rattle.dy_term.specs.Types.{CoreType, named, single, single_name, union, range, types_of}
 use Rattle.dy_drafts.specs.Shapes.{reads, integer_of, literal_of, least, greatest}

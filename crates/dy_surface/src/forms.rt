@@ -1,10 +1,10 @@
 //! Whole forms as drafts of the core (DRM 5 and 6).
 
 ghost use Rattle.std.specs.Prelude.{◌≡◌, map, true, IfOk};
-ghost use Rattle.dy_syntax.specs.Types as source;
-ghost use Rattle.dy_syntax.specs.Trees.{body_of};
-ghost use Rattle.dy_syntax.specs.SeenTypes.{seen_variable, seen_target, seen_type as type_tree};
-ghost use Rattle.dy_syntax.specs.SeenForms.{seen_form, seen_items, seen_parameters, seen_slot, seen_tree};
+ghost use Rattle.dy_rules.specs.Types as source;
+ghost use Rattle.dy_rules.specs.Trees.{body_of};
+ghost use Rattle.dy_rules.specs.SeenTypes.{seen_variable, seen_target, seen_type as type_tree};
+ghost use Rattle.dy_rules.specs.SeenForms.{seen_form, seen_items, seen_parameters, seen_slot, seen_tree};
 ghost use Rattle.dy_term.specs.Types.{seen_type, seen_typed};
 ghost use Rattle.dy_term.specs.Drafts.{seen_term, seen_lambda};
 ghost use Rattle.dy_term.specs.Rows.{variable_row, top_term, type_constant, seen_draft, seen_top};

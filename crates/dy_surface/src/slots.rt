@@ -1,7 +1,7 @@
 //! Slots of classes (DRM 5, "Slots").
 
 ghost use Rattle.std.specs.Prelude.{◌≡◌, map, option_map, IfOk};
-ghost use Rattle.dy_syntax.specs.SeenForms.{seen_option, seen_initial, seen_slot as slot_tree};
+ghost use Rattle.dy_rules.specs.SeenForms.{seen_option, seen_initial, seen_slot as slot_tree};
 ghost use Rattle.dy_term.specs.Rows.{seen_slot, seen_init};
 ghost use Rattle.dy_surface.specs.Forms.{has, kind_of, written_setter, setter_of, keyword_of, is_required, written_init, init_of, slot_of};
 

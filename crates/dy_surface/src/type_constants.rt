@@ -2,11 +2,11 @@
 
 ghost use Rattle.std.specs.Prelude.{◌≡◌, map, option_map, IfOk};
 ghost use Rattle.dy_term.specs.Types.{seen_type};
-ghost use Rattle.dy_syntax.specs.ConstantTrees.{constants_of, tail_of};
-ghost use Rattle.dy_syntax.specs.SeenTypes.{seen_constant};
-ghost use Rattle.dy_syntax.specs.SeenForms.{seen_tree, seen_argument};
+ghost use Rattle.dy_rules.specs.ConstantTrees.{constants_of, tail_of};
+ghost use Rattle.dy_rules.specs.SeenTypes.{seen_constant};
+ghost use Rattle.dy_rules.specs.SeenForms.{seen_tree, seen_argument};
 ghost use Rattle.dy_surface.specs.TypeConstants as spec;
-ghost use Rattle.dy_syntax.specs.Trees.{arguments_of};
+ghost use Rattle.dy_rules.specs.Trees.{arguments_of};
 
 use dy_desugar::name_in;
 use dy_drafts::{integer_of, literal_of, reads};

@@ -8,11 +8,11 @@ use Rattle.dy_term.specs.declared.draft.DraftForClause.{DraftForClause}
 use Rattle.dy_term.specs.Types.{integer}
 use Rattle.dy_term.specs.Drafts as core
 use Rattle.dy_term.specs.Drafts.{CoreLambda, CoreCatch, Core, cond, choice_of, cores_of, arms_of, catches_of, clauses_of, methods_of, seen_term, seen_pair, seen_clause}
-use Rattle.dy_syntax.specs.SeenTypes.{seen_type, seen_variable}
+use Rattle.dy_rules.specs.SeenTypes.{seen_type, seen_variable}
 use Rattle.dy_drafts.specs.Shapes.{type_of, declared_or}
 use Rattle.dy_drafts.specs.Parts.{choose, not_core, false_core, setting, setter_at}
-use Rattle.dy_syntax.specs.SeenForms as source
-use Rattle.dy_syntax.specs.SeenForms.{seen_tree}
+use Rattle.dy_rules.specs.SeenForms as source
+use Rattle.dy_rules.specs.SeenForms.{seen_tree}
 use Rattle.dy_desugar.specs.Table as table
 use Rattle.dy_desugar.specs.Table.{core_of, name_in}
 use Rattle.dy_desugar.specs.Lists.{argument_terms, item_core, body_core, otherwise_core, maybe_body, maybe_tree, maybe_boxed, alternative_core, case_core, arm_core, block_clauses, for_clause_core, bound_core, stop_core, own_exception, lambda_core, method_core}

@@ -1,6 +1,6 @@
 use Rattle.std.proofs.Common.{◌≡◌, map, take}
 use Rattle.dy_term.specs.Types.{seen_typed}
-use Rattle.dy_syntax.specs.SeenTypes.{seen_required}
+use Rattle.dy_rules.specs.SeenTypes.{seen_required}
 use Rattle.dy_drafts.specs.Shapes.{required_of}
 use Rattle.dy_desugar.proofs.methods.required_in.Given as goal
 

@@ -3,8 +3,8 @@ use Rattle.std.proofs.lemmas.Result.{IfOk-weaker}
 use Rattle.dy_term.specs.declared.literal.Literal.{Literal}
 use Rattle.dy_term.specs.Literals as core
 use Rattle.dy_term.specs.Literals.{seen_literal}
-use Rattle.dy_syntax.specs.ConstantTrees.{tail_of as end_of}
-use Rattle.dy_syntax.specs.SeenTypes.{seen_constant}
+use Rattle.dy_rules.specs.ConstantTrees.{tail_of as end_of}
+use Rattle.dy_rules.specs.SeenTypes.{seen_constant}
 use Rattle.dy_drafts.specs.Shapes.{constant_of, tail_of, list_of}
 use Rattle.dy_drafts.proofs.Rows.{at_list, at_vector}
 use Rattle.dy_drafts.proofs.constants.+constants.Goals as goal

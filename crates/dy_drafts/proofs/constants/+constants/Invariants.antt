@@ -1,6 +1,6 @@
 use Rattle.std.proofs.Common.{◌≡◌, map, take}
 use Rattle.dy_term.specs.Literals.{seen_literal}
-use Rattle.dy_syntax.specs.SeenTypes.{seen_constant}
+use Rattle.dy_rules.specs.SeenTypes.{seen_constant}
 use Rattle.dy_drafts.specs.Shapes.{constant_of}
 use Rattle.dy_drafts.proofs.constants.+constants.Given as goal
 

@@ -1,6 +1,6 @@
 use Rattle.std.proofs.Common.{◌≡◌, map, take}
 use Rattle.dy_term.specs.Types.{seen_type}
-use Rattle.dy_syntax.specs.SeenTypes.{seen_variable}
+use Rattle.dy_rules.specs.SeenTypes.{seen_variable}
 use Rattle.dy_drafts.specs.Shapes.{declared_of}
 use Rattle.dy_drafts.proofs.parameters.declared_in.Given as goal
 

@@ -1,7 +1,7 @@
 use Rattle.std.proofs.Common.{◌≡◌, List, map, sym, ap, ◌∙◌}
 use Rattle.dy_tree.specs.declared.token.Token.{Token}
 use Rattle.dy_term.specs.Types.{CoreType, union, types_of, seen_type as seen_draft}
-use Rattle.dy_syntax.specs.SeenTypes.{seen_type}
+use Rattle.dy_rules.specs.SeenTypes.{seen_type}
 use Rattle.dy_drafts.specs.Shapes.{type_of}
 use Rattle.dy_drafts.proofs.Rows.{at_union}
 use Rattle.dy_drafts.proofs.types.+types.Goals as goal

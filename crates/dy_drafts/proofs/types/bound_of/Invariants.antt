@@ -1,5 +1,5 @@
 use Rattle.std.proofs.Common.{◌≡◌, drop, map}
-use Rattle.dy_syntax.specs.SeenTypes.{seen_bound}
+use Rattle.dy_rules.specs.SeenTypes.{seen_bound}
 use Rattle.dy_drafts.specs.Shapes.{bound_of}
 use Rattle.dy_drafts.proofs.types.bound_of.Given as goal
 

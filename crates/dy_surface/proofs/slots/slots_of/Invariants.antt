@@ -1,5 +1,5 @@
 use Rattle.std.proofs.Common.{◌≡◌, map, take}
-use Rattle.dy_syntax.specs.SeenForms.{seen_slot as slot_tree}
+use Rattle.dy_rules.specs.SeenForms.{seen_slot as slot_tree}
 use Rattle.dy_term.specs.Rows.{seen_slot}
 use Rattle.dy_surface.specs.Forms.{slot_of}
 use Rattle.dy_surface.proofs.slots.slots_of.Given as goal

@@ -1,5 +1,5 @@
 use Rattle.std.proofs.Common.{◌≡◌, drop, map}
-use Rattle.dy_syntax.specs.SeenForms.{seen_option}
+use Rattle.dy_rules.specs.SeenForms.{seen_option}
 use Rattle.dy_surface.specs.Forms.{written_setter}
 use Rattle.dy_surface.proofs.slots.written_setter.Given as goal
 

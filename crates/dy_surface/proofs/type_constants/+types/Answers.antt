@@ -5,9 +5,9 @@ use Rattle.std.proofs.lemmas.Result.{IfOk-weaker}
 use Rattle.dy_tree.specs.declared.expression.Expression.{Expression}
 use Rattle.dy_term.specs.declared.draft.DraftType.{DraftType}
 use Rattle.dy_term.specs.Types.{CoreType, seen_type}
-use Rattle.dy_syntax.specs.SeenForms.{seen_tree, seen_argument}
+use Rattle.dy_rules.specs.SeenForms.{seen_tree, seen_argument}
 use Rattle.dy_desugar.specs.Table.{name_in}
-use Rattle.dy_syntax.specs.Trees.{arguments_of}
+use Rattle.dy_rules.specs.Trees.{arguments_of}
 use Rattle.dy_surface.specs.TypeConstants.{type_in, types_in}
 use Rattle.dy_surface.proofs.Calls.{at_named, at_unnamed}
 use Rattle.dy_surface.proofs.Steps.{type_found}

@@ -1,8 +1,8 @@
 use Rattle.std.proofs.Common.{◌≡◌, ◌+◌, ◌*◌, ◌++◌, map, drop}
 use Rattle.std.specs.Prelude.{option_map}
 use Rattle.dy_term.specs.Types.{seen_type}
-use Rattle.dy_syntax.specs.SeenForms.{seen_argument}
-use Rattle.dy_syntax.specs.Trees.{arguments_of}
+use Rattle.dy_rules.specs.SeenForms.{seen_argument}
+use Rattle.dy_rules.specs.Trees.{arguments_of}
 use Rattle.dy_surface.specs.TypeConstants.{types_in}
 use Rattle.dy_surface.proofs.type_constants.+types.Given as goal
 

@@ -1,9 +1,0 @@
-use Rattle.std.proofs.Common.{◌∙◌}
-use Rattle.dy_syntax.specs.Roles.{nothing}
-use Rattle.dy_syntax.specs.Reading as reading
-use Rattle.dy_expression.specs.Machines.{seen_machine}
-use Rattle.dy_expression.proofs.PassingSteps.{within_is}
-use Rattle.dy_expression.proofs.passing.Value.token.Goals as goal
-
-pub returns : goal.returns
-returns c = c.with_machine.ensures ∙ within_is c.args.self.passed c.args.self.keyword _ (reading.at_token nothing (seen_machine c.args.self.machine) c.args.token.now) c.in_ok-next.ensures

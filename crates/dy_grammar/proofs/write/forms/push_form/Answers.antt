@@ -1,4 +1,0 @@
-use Rattle.dy_grammar.proofs.write.forms.push_form.Goals as goal
-
-pub returns-in-Variable : goal.returns-in-Variable
-returns-in-Variable c = rw c.in-Variable.is c.push_binding-in-Variable.ensures

@@ -1,8 +1,0 @@
-use Rattle.std.proofs.Common.{◌≡◌, ◌++◌, map, take}
-use Rattle.dy_tree.specs.Fragments.{seen_fragments}
-use Rattle.dy_syntax.specs.FormWriting.{written_options}
-use Rattle.dy_syntax.specs.SeenForms.{seen_option}
-use Rattle.dy_grammar.proofs.write.slots.push_options.Given as goal
-
-abbrev pub invariant-loop-option : goal.invariant-loop-option
-invariant-loop-option l = seen_fragments l.out.items ≡ seen_fragments l.fn.out.items ++ written_options (map seen_option (take l.option-index l.option-items))

@@ -1,8 +1,0 @@
-use Rattle.std.proofs.Common.{◌≡◌, ◌++◌, map, take}
-use Rattle.dy_tree.specs.Fragments.{seen_fragments}
-use Rattle.dy_syntax.specs.FormWriting.{written_slots}
-use Rattle.dy_syntax.specs.SeenForms.{seen_slot}
-use Rattle.dy_grammar.proofs.write.slots.push_slots.Given as goal
-
-abbrev pub invariant-loop-slot : goal.invariant-loop-slot
-invariant-loop-slot l = seen_fragments l.out.items ≡ seen_fragments l.fn.out.items ++ written_slots (map seen_slot (take l.slot-index l.slot-items))

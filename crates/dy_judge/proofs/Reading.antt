@@ -1,0 +1,45 @@
+-- What a form is read as, by what the parser says.
+use Rattle.std.proofs.Common.{◌≡◌, List, refl, sym, ap, ◌∙◌}
+use Rattle.std.specs.Prelude.{Option, Result, Ok, Err, IfOk}
+use Rattle.std.specs.declared.alloc.AllocError.{AllocError}
+use Rattle.dy_base.specs.declared.kind.Kind.{Kind}
+use Rattle.dy_base.specs.declared.kind.Kind.TheVariants.{Syntax, TooDeep}
+use Rattle.dy_base.specs.declared.fault.Fault.{Fault}
+use Rattle.dy_base.specs.declared.fault.Refusal.{Refusal}
+use Rattle.dy_base.specs.declared.fault.Refusal.TheVariants as refusals
+use Rattle.dy_tree.specs.declared.form.Form.{Form}
+use Rattle.dy_tree.specs.Fragments.{SeenFragment}
+use Rattle.dy_rules.specs.SeenForms.{seen_form}
+use Rattle.dy_rules.specs.Parsing.{Parsed, accepted, too_deep, no_form, parsed}
+use Rattle.dy_read_forms.specs.Answers.{Accepts, RefusesFor, fault_of}
+use Rattle.dy_surface.specs.Forms.{draft_of}
+use Rattle.dy_subset.specs.declared.row.Reading.{Reading as HeldReading}
+use Rattle.dy_subset.specs.Forms.{Reading, faulty, TopTree, seen_reading}
+use Rattle.dy_judge.specs.Forms.{reading_of, taken_top, told_reading, reading_in, Tells}
+
+-- of a form that the parser gives
+pub form_read : (fragments : List SeenFragment) (found : Form) (top : Option TopTree) (reading : Reading) → Accepts fragments (Ok found) → top ≡ taken_top fragments (draft_of (seen_form found)) → reading ≡ reading_of top → reading ≡ reading_in fragments
+form_read fragments found top reading accepts is same = same ∙ ap reading_of is ∙ ap (told_reading fragments) (sym (accepts.only found refl))
+
+fault_read : (fragments : List SeenFragment) (fault : Fault) (reading : Reading) → Accepts fragments (Err (refusals.Fault fault)) → RefusesFor no_form Syntax fragments (Err (refusals.Fault fault)) → RefusesFor too_deep TooDeep fragments (Err (refusals.Fault fault))
+    → reading ≡ faulty fault.kind → reading ≡ reading_in fragments
+fault_read fragments fault reading accepts syntax deep is = go (parsed fragments) refl
+  where
+    told : (kind : Kind) → fault ≡ fault_of kind fragments → reading ≡ faulty kind
+    told kind same = is ∙ ap (λ (f : Fault). faulty f.kind) same
+
+    go : (found : Parsed) → parsed fragments ≡ found → reading ≡ reading_in fragments
+    go no_form found = told Syntax (syntax.refused found) ∙ ap (told_reading fragments) (sym found)
+    go too_deep found = told TooDeep (deep.refused found) ∙ ap (told_reading fragments) (sym found)
+    go (accepted tree) found = absurd (accepts.given tree found)
+
+told_read : (fragments : List SeenFragment) (refusal : Refusal) (reading : Reading) → Accepts fragments (Err refusal) → RefusesFor no_form Syntax fragments (Err refusal) → RefusesFor too_deep TooDeep fragments (Err refusal) → Tells refusal reading
+    → reading ≡ reading_in fragments
+told_read fragments (refusals.Fault fault) reading accepts syntax deep tells = fault_read fragments fault reading accepts syntax deep tells
+told_read fragments refusals.Memory reading accepts syntax deep tells = absurd tells
+
+-- of a form that the parser refuses
+pub refusal_read : (fragments : List SeenFragment) (refusal : Refusal) (result : Result HeldReading AllocError) → Accepts fragments (Err refusal) → RefusesFor no_form Syntax fragments (Err refusal) → RefusesFor too_deep TooDeep fragments (Err refusal)
+    → IfOk result (λ reading. Tells refusal (seen_reading reading)) → IfOk result (λ reading. seen_reading reading ≡ reading_in fragments)
+refusal_read fragments refusal (Ok reading) accepts syntax deep tells = told_read fragments refusal (seen_reading reading) accepts syntax deep tells
+refusal_read fragments refusal (Err error) accepts syntax deep tells = tt

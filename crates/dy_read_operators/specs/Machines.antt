@@ -1,0 +1,58 @@
+-- The reader of one expression, as the definitions see it.
+use Rattle.std.specs.Prelude.{Option, None}
+use Rattle.dy_tree.specs.declared.token.Token.{Token}
+use Rattle.dy_rules.specs.Trees.{literal}
+use Rattle.dy_rules.specs.Roles.{Role, dot, positive, Bracket, round, square, hidden, sharp_round, sharp_square, statement}
+use Rattle.dy_rules.specs.Reading as reading
+use Rattle.dy_rules.specs.Reading.{Outer, Part}
+use Rattle.dy_read_operators.specs.declared.state.State.{State}
+use Rattle.dy_read_operators.specs.declared.state.State.TheVariants as states
+use Rattle.dy_read_operators.specs.declared.state.Machine.{Machine}
+use Rattle.dy_read_operators.specs.declared.state.Need.{Need}
+use Rattle.dy_read_operators.specs.declared.state.Need.TheVariants as needs
+use Rattle.dy_read_operators.specs.Grown.{read_grown}
+use Rattle.dy_read_operators.specs.Outers.{seen_outer}
+
+abbrev pub seen_state : State → Outer → reading.State
+seen_state states.Wants outer = reading.wants outer
+seen_state (states.Counted digits) outer = reading.counted digits outer
+seen_state (states.Has tree) outer = reading.has (read_grown tree) outer
+seen_state (states.Dotted tree) outer = reading.dotted (read_grown tree) outer
+
+abbrev pub seen_machine : Machine → reading.State
+seen_machine machine = seen_state machine.state (seen_outer machine.outer)
+
+-- an integer in front of a token: in front of a dot by itself
+abbrev pub integer_for : Role → Token → Outer → Part
+integer_for dot digits outer = (literal (positive digits), outer)
+integer_for _ digits outer = reading.integer_part digits outer
+
+-- which inside of a group is looked at
+abbrev pub need_at_operand : Bracket → Need
+need_at_operand round = needs.Tree
+need_at_operand hidden = needs.Tree
+need_at_operand sharp_round = needs.Tree
+need_at_operand sharp_square = needs.Tree
+need_at_operand (statement kind) = needs.Tree
+need_at_operand _ = needs.Nothing
+
+abbrev pub need_behind : Bracket → Need
+need_behind round = needs.Arguments
+need_behind square = needs.Tree
+need_behind _ = needs.Nothing
+
+abbrev pub need_of : reading.State → Bracket → Need
+need_of (reading.wants outer) bracket = need_at_operand bracket
+need_of (reading.counted digits outer) bracket = need_behind bracket
+need_of (reading.has tree outer) bracket = need_behind bracket
+need_of (reading.dotted tree outer) bracket = needs.Nothing
+
+-- the tree, if it is looked at
+abbrev pub tree_if : {A : Type 0} → Need → Option A → Option A
+tree_if needs.Tree tree = tree
+tree_if _ tree = None
+
+-- the arguments, if they are looked at
+abbrev pub passed_if : {A : Type 0} → Need → Option A → Option A
+passed_if needs.Arguments passed = passed
+passed_if _ passed = None

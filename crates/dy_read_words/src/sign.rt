@@ -1,0 +1,74 @@
+//! Single operators, marks and symbols.
+
+ghost use Rattle.std.specs.Prelude.{◌≡◌};
+ghost use Rattle.dy_rules.specs.Productions as productions;
+ghost use Rattle.dy_rules.specs.Types as spec;
+ghost use Rattle.dy_read_words.specs.Seen.{seen_role};
+
+use crate::role::{Precedence, Role, role_of};
+use crate::spelling::is_same;
+use dy_tree::{Token, TokenKind};
+
+fn is_mark_kind(kind: TokenKind) -> bool
+    ensures { result ≡ spec.is_mark_kind kind }
+{
+    matches!(kind, TokenKind::Mark)
+}
+
+fn is_symbol_kind(kind: TokenKind) -> bool
+    ensures { result ≡ spec.is_symbol_kind kind }
+{
+    matches!(kind, TokenKind::Symbol)
+}
+
+/// Whether a token is this mark: `#rest`, `#next`, `#key` or `#all-keys`.
+pub fn is_mark(text: &[u8], token: &Token) -> bool
+    ensures { result ≡ spec.is_mark text.now token.now }
+{
+    is_mark_kind(token.kind) && is_same(text, token.text.bytes())
+}
+
+/// Whether a token is this symbol.
+pub fn is_symbol_of(text: &[u8], token: &Token) -> bool
+    ensures { result ≡ spec.is_symbol_of text.now token.now }
+{
+    is_symbol_kind(token.kind) && is_same(text, token.text.bytes())
+}
+
+/// Whether a token is `min:` or `max:`.
+pub fn is_bound(token: &Token) -> bool
+    ensures { result ≡ spec.is_bound token.now }
+{
+    is_symbol_of(b"min", token) || is_symbol_of(b"max", token)
+}
+
+/// Whether a token is `while:` or `until:`, with which a loop ends.
+pub fn is_stop_word(token: &Token) -> bool
+    ensures { result ≡ productions.is_stop_word token.now }
+{
+    let text = token.text.bytes();
+    matches!(role_of(token), Role::Symbol) && (is_same(b"while", text) || is_same(b"until", text))
+}
+
+fn is_comparison(role: Role) -> bool
+    ensures { result ≡ spec.is_comparison (seen_role role) }
+{
+    match role {
+        Role::Operator(precedence) => matches!(precedence, Precedence::Comparison),
+        _ => false,
+    }
+}
+
+/// Whether a token is `==`.
+pub fn is_identity(token: &Token) -> bool
+    ensures { result ≡ spec.is_identity token.now }
+{
+    is_comparison(role_of(token)) && is_same(b"==", token.text.bytes())
+}
+
+/// Whether a token is `=`.
+pub fn is_equals(token: &Token) -> bool
+    ensures { result ≡ spec.is_equals token.now }
+{
+    is_comparison(role_of(token)) && is_same(b"=", token.text.bytes())
+}

@@ -1,9 +1,0 @@
-use Rattle.std.proofs.Common.{map}
-use Rattle.dy_syntax.specs.SeenForms.{seen_item, seen_method, seen_parameters}
-use Rattle.dy_reader.proofs.BodyParts.{method_filled}
-use Rattle.dy_reader.proofs.bodies.named_of.Goals as goal
-
-pub returns : goal.returns
-returns c =
-    let method = c.args.named.method in
-    method_filled c.args.word c.args.named.name (seen_parameters method.parameters) (map seen_item method.body.items) (seen_method c.method_of.result) c.method_of.ensures

@@ -1,9 +1,0 @@
-use Rattle.std.proofs.Common.{Option, Some, subst}
-use Rattle.dy_types.specs.declared.results.ResultsFront.{ResultsFront}
-use Rattle.dy_types.specs.Results as given
-use Rattle.dy_reader.proofs.signatures.signature_of.Goals as goal
-
-pub returns-in-Some-clause-nested : goal.returns-in-Some-clause-nested
-returns-in-Some-clause-nested c n h =
-    let within : given.IsRestWithin n (Some c.in-Some.front) = subst (λ (found : Option ResultsFront). given.IsRestWithin n found) c.in-Some.is h in
-    rw c.with_results.ensures.rest within

@@ -1,5 +1,0 @@
-use Rattle.dy_sources.proofs.Uniqueness.{verdict_one}
-use Rattle.dy_sources.proofs.laws.verdict_laws.Goals as goal
-
-pub returns : goal.returns
-returns c = record { one = verdict_one }

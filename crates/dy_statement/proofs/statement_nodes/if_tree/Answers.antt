@@ -1,7 +1,0 @@
-use Rattle.std.proofs.Common.{rules}
-use Rattle.dy_tree.specs.declared.expression.Argument.TheViews.{the_lemmas}
-use Rattle.dy_statement.proofs.Held.{inner_items, inner_alternatives, inner_last}
-use Rattle.dy_statement.proofs.statement_nodes.if_tree.Goals as goal
-
-pub returns : goal.returns
-returns c = search (rules, the_lemmas, inner_items, inner_alternatives, inner_last)
