@@ -30,7 +30,7 @@ first_token (source.element inner opener index) = first_token inner
 first_token (source.member inner token) = first_token inner
 first_token (source.literal form) = literal_token form
 first_token (source.name token) = token
-first_token (source.list opener items tail) = opener
+first_token (source.list opener items last) = opener
 first_token (source.vector opener items) = opener
 first_token (source.begin_tree word body) = word
 first_token (source.method_tree word row body) = word
@@ -85,7 +85,7 @@ abbrev mutual
   core_of (source.assignment place value) = assignment_of place (core_of place) (core_of value)
   core_of (source.literal value) = literal (literal_of value)
   core_of (source.name token) = name token
-  core_of (source.list opener items tail) = literal (list_of (constants_of items) (tail_of tail))
+  core_of (source.list opener items last) = literal (list_of (constants_of items) (tail_of last))
   core_of (source.vector opener items) = literal (constants.vector (constants_of items))
   -- statements
   core_of (source.begin_tree word body) = bodied (items_in body)

@@ -59,7 +59,7 @@ list_of (core.constant_and first rest) last = core.list (core.constant_and first
 abbrev mutual
   pub constant_of : source.Constant → core.Constant
   constant_of (source.literal_item value) = literal_of value
-  constant_of (source.list_item opener items tail) = list_of (constants_of items) (tail_of tail)
+  constant_of (source.list_item opener items last) = list_of (constants_of items) (tail_of last)
   constant_of (source.vector_item opener items) = core.vector (constants_of items)
 
   pub constants_of : source.Constants → core.Constants

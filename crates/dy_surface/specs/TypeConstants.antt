@@ -28,7 +28,7 @@ is_nil _ _ = false
 -- `singleton(value)`: of a literal, of `#()`, or of the class that a name means
 abbrev pub only_value : Token → Tree → Option CoreType
 only_value word (source.literal form) = Some (single (literal_of form))
-only_value word (source.list opener items tail) = if is_nil items tail then Some (single constants.nil) else None
+only_value word (source.list opener items last) = if is_nil items last then Some (single constants.nil) else None
 only_value word (source.name token) = Some (single_name word token)
 only_value word _ = None
 
