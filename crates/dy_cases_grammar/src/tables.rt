@@ -1,7 +1,7 @@
 //! Tables of forms.
 
 /// Each operator, its level and how operators of a level associate.
-pub(crate) static OPERATORS: [(&str, &str); 30] = [
+pub(crate) static OPERATORS: [(&str, &str); 32] = [
     ("a + b", " a + b"),
     ("a - b", " a - b"),
     ("a * b", " a * b"),
@@ -32,6 +32,8 @@ pub(crate) static OPERATORS: [(&str, &str); 30] = [
     ("a := b | c", " a := ( b | c )"),
     ("- a + b", " ( - a ) + b"),
     ("~ a = b", " ( ~ a ) = b"),
+    ("(a - b) + c", " ( a - b ) + c"),
+    ("- 1 * else", " ( - 1 ) * ( else )"),
 ];
 
 /// Literals, brackets, calls, elements and members.
@@ -153,7 +155,7 @@ pub(crate) static STATEMENTS: [(&str, &str); 34] = [
 ];
 
 /// Each definition, each adjective and each option of a slot.
-pub(crate) static DEFINITIONS: [(&str, &str); 25] = [
+pub(crate) static DEFINITIONS: [(&str, &str); 26] = [
     (
         "define class <a> (<b>) end",
         " define class <a> ( <b> ) end",
@@ -185,6 +187,10 @@ pub(crate) static DEFINITIONS: [(&str, &str); 25] = [
     (
         "define class <a> (<b>) each-subclass slot x; end",
         " define class <a> ( <b> ) each-subclass slot x ; end",
+    ),
+    (
+        "define open class <k> (<a>, <b>) slot x :: <c> = a - b, init-keyword: x: end",
+        " define open class <k> ( <a> , <b> ) slot x :: <c> = a - b , init-keyword: x: ; end",
     ),
     ("define constant a = 1", " define constant a = 1"),
     (
@@ -309,4 +315,42 @@ pub(crate) static FAULTY: [(&str, &str); 60] = [
     ("define sealed constant a = 1", " Syntax @0"),
     ("define open sealed domain g (<a>)", " Syntax @0"),
     ("define generic g (#key k = 1)", " Syntax @0"),
+];
+
+/// Trees of 200 levels and of 201: a text, and what is expected, by parts with the number of times that each stands there.
+pub(crate) static DEPTHS: [(&[(&str, usize)], &[(&str, usize)]); 8] = [
+    (
+        &[("a", 1), (" + a", 199)],
+        &[(" (", 198), (" a + a", 1), (" ) + a", 198)],
+    ),
+    (&[("a", 1), (" + a", 200)], &[(" TooDeep @0", 1)]),
+    (
+        &[("- ", 199), ("a", 1)],
+        &[(" -", 1), (" ( -", 198), (" a", 1), (" )", 198)],
+    ),
+    (&[("- ", 200), ("a", 1)], &[(" TooDeep @0", 1)]),
+    (
+        &[("define method f () a", 1), (" + a", 198), (" end", 1)],
+        &[
+            (" define method f ( ) ;", 1),
+            (" (", 197),
+            (" a + a", 1),
+            (" ) + a", 197),
+            (" end", 1),
+        ],
+    ),
+    (
+        &[("define method f () a", 1), (" + a", 199), (" end", 1)],
+        &[(" TooDeep @0", 1)],
+    ),
+    // Brackets count for nothing.
+    (
+        &[("((((a", 1), (" + a", 199), ("))))", 1)],
+        &[(" (", 198), (" a + a", 1), (" ) + a", 198)],
+    ),
+    // No form is told before one that is too deep.
+    (
+        &[("define method f () a", 1), (" + a", 299), ("; a b end", 1)],
+        &[(" Syntax @0", 1)],
+    ),
 ];

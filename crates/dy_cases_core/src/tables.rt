@@ -230,3 +230,11 @@ pub(crate) static DEFINITIONS: [(&str, &str); 24] = [
     ),
     ("f(a)", "(run (call f a))"),
 ];
+
+/// Forms that call a name that is not written, and where that stands.
+pub(crate) static PLACES: [(&str, u32); 4] = [
+    ("  - a", 2),
+    ("abc[i]", 3),
+    ("ab + c", 3),
+    ("ab.cd", 3),
+];

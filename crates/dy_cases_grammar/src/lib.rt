@@ -1,0 +1,7 @@
+//! Tests of the grammar: the text of a form in, its canonical text out.
+#![tactic(auto)]
+
+#[cfg(test)]
+mod tables;
+#[cfg(test)]
+mod tests;
