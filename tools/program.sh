@@ -1,7 +1,7 @@
 # shellcheck shell=bash
 # What banthruy and tools/release share: what the program is made of and the checksum of that, the
-# program in release/, and how the program is proved and built. Whoever reads this file has set `root`,
-# the top of the repository. Here `sum` is the checksum of the sources, and `program` a file to be run.
+# program in release/, and how the program is proved and built. Whoever reads this file has set
+# `root`, the top of the repository. `sum` is the checksum, and `program` a file that can be run.
 
 root=$(cd -- "$root" && pwd)
 
@@ -23,8 +23,8 @@ fail() {
 
 # ---- What the program is made of
 
-# Sets `rt`, the command, `kit`, its folder, and `kit_id`, the line that names it. Where there is no kit,
-# the first two are empty, and the line is that of the kit with which the program in release/ was made.
+# Sets `rt`, the command, `kit`, its folder, and `kit_id`, the line that names it. Where there is no
+# kit, the first two are empty, and the line is that of the kit which made the program in release/.
 find_kit() {
     local found
     for found in "$(type -P rt)" /opt/rattle/bin/rt; do
@@ -41,12 +41,12 @@ find_kit() {
     [[ -n $kit_id ]]
 }
 
-# Ends where there is no kit to prove with.
-need_rt() {
-    [[ -n $rt ]] || fail "the command rt of the Rattle kit is not found, which is to prove the program"
+# Ends where there is no kit.
+need_kit() {
+    [[ -n $rt ]] || fail "the command rt of the Rattle kit is not found, to prove the program"
 }
 
-# Prints the lines of crates.txt in the folder $1 that are of crates which the program is made of.
+# Prints the lines of crates.txt, in the folder $1, of the crates that the program is made of.
 list_crates() {
     awk -v top="$top_crate" '
         { sub(/#.*/, "") }
@@ -69,8 +69,8 @@ list_crates() {
         }' "$1/crates.txt"
 }
 
-# Sets `crates` to the names of these crates, in the order of crates.txt, and `folders` to the folders
-# below $1 that hold their sources.
+# Sets `crates` to the names of these crates, in the order of crates.txt, and `folders` to the
+# folders below $1 that hold their sources.
 find_crates() {
     local line name part
     crates=() folders=()
@@ -84,16 +84,19 @@ find_crates() {
     ((${#folders[@]} > 0))
 }
 
+# Prints the SHA-256 of each source below the folder that the caller stands in, by their names.
+list_sources() {
+    find HANDLES "${folders[@]}" -type f -print0 | LC_ALL=C sort -z | xargs -0 sha256sum --
+}
+
 # Prints the checksum of all that the program is made of: the kit, and the sources in the folder $1.
 take_sum() (
     cd -- "$1" && find_crates . &&
-        {
-            printf '%s\n' "$kit_id" && list_crates . &&
-                find HANDLES "${folders[@]}" -type f -print0 | LC_ALL=C sort -z | xargs -0 sha256sum --
-        } | sha256sum | cut -c 1-32
+        { printf '%s\n' "$kit_id" && list_crates . && list_sources; } | sha256sum | cut -c 1-32
 )
 
-# Writes into the folder $1 which files and folders the sources are, and their sizes and times of change.
+# Writes into the folder $1 the names of all files and folders of the sources, and beside them their
+# sizes and times of change.
 write_state() (
     cd -- "$root" && find_crates . &&
         find crates.txt HANDLES "${crates[@]/#/crates/}" -maxdepth 0 -print0 >"$1/files" &&
@@ -101,18 +104,24 @@ write_state() (
         xargs -0 -a "$1/files" stat --printf '%s %.9Z\n' -- >"$1/state"
 )
 
-# Sets `sum`, and where build/ can be written notes by what it is seen that the sources are the same. The
-# times of change are read before the sources, with a tick of the clock in between: a file that is
-# changed after it was read then has another time than the one that is noted.
+# Prints a new folder in the folder $1, which is made where it is not there.
+make_room() {
+    mkdir -p -- "$1" 2>/dev/null && mktemp -d -- "$1/new.XXXXXX" 2>/dev/null
+}
+
+# Sets `sum`, and notes the state of the sources where build/ can be written. The state is read
+# first, and a tick of the clock before the sources: a file that is changed after it was read has
+# another time of change than the one that is noted.
 note_sum() {
-    local new=''
-    if ! { mkdir -p -- "$root/build" && new=$(mktemp -d -- "$root/build/new.XXXXXX"); } 2>/dev/null; then
+    local new
+    if ! new=$(make_room "$root/build"); then
         sum=$(take_sum "$root")
         return
     fi
     if write_state "$new" && sleep 0.02 && sum=$(take_sum "$root"); then
         printf '%s\n' "$sum" "$kit" "$kit_id" >"$new/noted" && mkdir -p -- "$root/build/$sum" &&
-            mv -f -- "$new/files" "$new/state" "$root/build/$sum" && mv -f -- "$new/noted" "$root/build"
+            mv -f -- "$new/files" "$new/state" "$root/build/$sum" &&
+            mv -f -- "$new/noted" "$root/build"
     else
         sum=''
     fi
@@ -122,8 +131,8 @@ note_sum() {
 
 # ---- The program in release/
 
-# Prints what release/made-of says of $1: `sources`, their checksum; `kit`; `packed`, the SHA-256 of the
-# packed program.
+# Prints what release/made-of says of $1: `sources`, their checksum with that of the kit; `kit`, the
+# line that names it; `packed`, the SHA-256 of the packed program.
 read_release() {
     sed -n "s/^$1: //p" -- "$root/release/made-of" 2>/dev/null || true
 }
@@ -135,15 +144,18 @@ is_release_whole() {
         [[ ${found%% *} == "$(read_release packed)" ]]
 }
 
-# Whether the program $1 runs on this machine. With no words it tells how it is used, with status 3.
+# Whether the program $1 runs on this machine: with no words it says how it is used, with status 3.
+# Else `complaint` is what was said in its place.
 runs_here() {
     local status=0
     complaint=$("$1" 2>&1 >/dev/null </dev/null) || status=$?
+    complaint=${complaint##*"$1: "}
     ((status == 3))
 }
 
-# Sets `program` to the one in release/ where it was made of these sources, is whole and runs here. It is
-# unpacked once, into build/; where that cannot be written, into a file that goes once it is opened.
+# Sets `program` to the one in release/, where it was made of these sources, is whole and runs here.
+# It is unpacked once, into build/. Where build/ cannot be written, it is unpacked into a file that
+# has no name any more once it was opened.
 take_release() {
     local place=$root/build/$sum room
     [[ -e $root/release/made-of ]] || return
@@ -155,8 +167,7 @@ take_release() {
         say "release/ is damaged: banthruy.gz is not the file that made-of tells of"
         return 1
     fi
-    if ! room=$(exec 2>/dev/null && mkdir -p -- "$place" && mktemp -d -- "$place/new.XXXXXX") &&
-        ! room=$(mktemp -d); then
+    if ! room=$(make_room "$place") && ! room=$(mktemp -d); then
         say "there is no place to unpack release/"
         return 1
     fi
@@ -164,7 +175,7 @@ take_release() {
     if ! gzip -dc -- "$root/release/banthruy.gz" >"$program" || ! chmod 755 -- "$program"; then
         say "release/ cannot be unpacked"
     elif ! runs_here "$program"; then
-        say "the program in release/ does not run on this machine: ${complaint##*"$program: "}"
+        say "the program in release/ does not run on this machine: $complaint"
     elif [[ $room != "$place"/* ]]; then
         exec 8<"$program"
         program=/proc/self/fd/8
@@ -186,25 +197,33 @@ copy_sources() (
     cd -- "$root" && find_crates . && list_crates . >"$1/crates.txt" &&
         cp -R --parents -- HANDLES "${folders[@]}" "$1" || exit
     for file in args stdin stdout status data; do
-        [[ ! -e crates/$top_crate/$file ]] || cp -R -- "crates/$top_crate/$file" "$1/crates/$top_crate" || exit
+        if [[ -e crates/$top_crate/$file ]]; then
+            cp -R -- "crates/$top_crate/$file" "$1/crates/$top_crate" || exit
+        fi
     done
     # rt takes a folder that has a .git for the top of a repository.
     mkdir -- "$1/.git"
 )
 
-# Tells on standard error which crates are proved, as the log $1 has it, until rt ends: on a terminal in
-# one line that is written anew, else in a line for each.
+# Prints the crates that are proved, now or by an earlier run of rt, as the log $1 has it.
+list_proved() {
+    sed -nE 's/^rt: ([a-z0-9_]+) (proved$|is kept:.*)/\1/p' -- "$1"
+}
+
+# Tells on standard error which crates are proved, as the log $1 has it, until rt ends: in one line
+# that is written anew on a terminal, else in a line for each crate.
 tell_progress() {
-    local proved=() told=0 begin=$SECONDS is_alive=true
+    local proved=() told=0 begin=$SECONDS is_alive=true all=${#crates[@]} minutes
     while $is_alive; do
         kill -0 "$prover" 2>/dev/null || is_alive=false
-        mapfile -t proved < <(sed -nE 's/^rt: ([a-z0-9_]+) (proved$|is kept:.*)/\1/p' -- "$1")
+        mapfile -t proved < <(list_proved "$1")
         if [[ -t 2 ]]; then
-            printf '\r%s: %d of %d crates are proved, after %d minutes%-30s' "$me" ${#proved[@]} ${#crates[@]} \
-                $(((SECONDS - begin) / 60)) "${proved[*]:+, ${proved[*]: -1} last}" >&2
+            minutes=$(((SECONDS - begin) / 60))
+            printf '\r%s: %d of %d crates are proved, after %d minutes%-30s' "$me" ${#proved[@]} \
+                "$all" $minutes "${proved[*]:+, ${proved[*]: -1} last}" >&2
         else
             for (( ; told < ${#proved[@]}; told++)); do
-                say "$((told + 1)) of ${#crates[@]} crates are proved: ${proved[told]}"
+                say "$((told + 1)) of $all crates are proved: ${proved[told]}"
             done
         fi
         ! $is_alive || sleep 1
@@ -212,17 +231,18 @@ tell_progress() {
     [[ ! -t 2 ]] || echo >&2
 }
 
-# Proves the program of these sources by `rt ci` over a copy of them, and sets `program` to what it built,
-# which goes with `end_proof`. rt takes what it kept on this machine of the same files, and proves as many
-# crates side by side as there are processors and memory for. The log is $1.
+# Proves the program of these sources by `rt ci` over a copy of them, and sets `program` to what it
+# built, which goes with `end_proof`. rt takes what it kept on this machine of the same files, and
+# proves as many crates side by side as there are processors and memory for. The log is $1.
 prove_program() {
-    room=$(mktemp -d -- "${TMPDIR:-/var/tmp}/banthruy.XXXXXX") || fail "there is no place for a copy of the sources"
+    room=$(mktemp -d -- "${TMPDIR:-/var/tmp}/banthruy.XXXXXX") ||
+        fail "there is no place for a copy of the sources"
     prover=''
     trap end_proof EXIT
     trap 'exit 130' INT
     trap 'exit 143' HUP TERM
     copy_sources "$room" || fail "the sources in $root cannot be copied"
-    [[ $(take_sum "$room") == "$sum" ]] || fail "the sources changed while they were read: run it again"
+    [[ $(take_sum "$room") == "$sum" ]] || fail "the sources changed meanwhile: run it again"
     find_crates "$room"
     : >"$1" || fail "$1 cannot be written"
     (cd -- "$room" && exec "$rt" ci) </dev/null >>"$1" 2>&1 9>&- &
@@ -231,7 +251,7 @@ prove_program() {
     wait "$prover" || true
     prover=''
     program=$room/crates/$top_crate/out/$top_crate
-    if ! grep -qx "rt: $top_crate proved" -- "$1" || [[ ! -x $program ]]; then
+    if ! list_proved "$1" | grep -x -- "$top_crate" >/dev/null || [[ ! -x $program ]]; then
         grep -E '^rt: .*(NOT PROVED|FAILED)' -- "$1" | head -n 3 >&2 || true
         fail "the program was not proved and built; the log is $1"
     fi
@@ -248,11 +268,11 @@ end_proof() {
     rm -rf -- "$room"
 }
 
-# Sets `program` to one that was proved and built of these sources on this machine, once. One call proves
-# at a time, and one that waited takes what was built.
+# Sets `program` to one that was proved and built of these sources on this machine, once. One call
+# proves at a time, and one that waited takes what was built.
 make_program() {
     local place=$root/build/$sum
-    need_rt
+    need_kit
     if ! { mkdir -p -- "$place" && exec 9>>"$root/build/lock"; } 2>/dev/null; then
         fail "$root/build cannot be written, where the program is to be proved and built"
     fi
@@ -261,14 +281,14 @@ make_program() {
         flock 9
     fi
     if [[ ! -x $place/proved ]]; then
-        say "proves and builds the program: about an hour on 4 processors where nothing is kept (docs/GATE.md)"
-        say "the log is $place/log"
+        say "proves and builds the program: about an hour on 4 processors (docs/GATE.md), and less"
+        say "where rt ci kept proofs on this machine; the log is $place/log"
         prove_program "$place/log"
-        if ! install -m 755 -- "$program" "$place/new" || ! mv -f -- "$place/new" "$place/proved"; then
+        if ! { install -m 755 -- "$program" "$place/new" && mv -- "$place/new" "$place/proved"; }; then
             fail "$place cannot be written"
         fi
         end_proof
-        [[ $(take_sum "$root") == "$sum" ]] || fail "the sources changed while the program was built: run it again"
+        [[ $(take_sum "$root") == "$sum" ]] || fail "the sources changed meanwhile: run it again"
     fi
     program=$place/proved
     exec 9>&-
