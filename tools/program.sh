@@ -3,7 +3,7 @@
 # program in release/, and how the program is proved and built. Whoever reads this file has set
 # `root`, the top of the repository. `sum` is the checksum, and `program` a file that can be run.
 
-root=$(cd -- "$root" && pwd)
+root=$(CDPATH='' cd -- "$root" && pwd)
 
 # The crate of the program.
 top_crate=dy_main
@@ -101,7 +101,7 @@ write_state() (
     cd -- "$root" && find_crates . &&
         find crates.txt HANDLES "${crates[@]/#/crates/}" -maxdepth 0 -print0 >"$1/files" &&
         find "${folders[@]}" -print0 >>"$1/files" &&
-        xargs -0 -a "$1/files" stat --printf '%s %.9Z\n' -- >"$1/state"
+        LC_ALL=C xargs -0 -a "$1/files" stat --printf '%s %.9Z\n' -- >"$1/state"
 )
 
 # Prints a new folder in the folder $1, which is made where it is not there.
@@ -284,9 +284,8 @@ make_program() {
         say "proves and builds the program: about an hour on 4 processors (docs/GATE.md), and less"
         say "where rt ci kept proofs on this machine; the log is $place/log"
         prove_program "$place/log"
-        if ! { install -m 755 -- "$program" "$place/new" && mv -- "$place/new" "$place/proved"; }; then
-            fail "$place cannot be written"
-        fi
+        install -m 755 -- "$program" "$place/new" || fail "$place cannot be written"
+        mv -f -- "$place/new" "$place/proved"
         end_proof
         [[ $(take_sum "$root") == "$sum" ]] || fail "the sources changed meanwhile: run it again"
     fi
