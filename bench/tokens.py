@@ -1,9 +1,9 @@
 #!/usr/bin/env python3
 """Measures how fast source files are read as tokens, beside other lexers on the same machine.
 
-usage: tokens.py DY_TOKENS
+usage: tokens.py PROGRAM
 
-`DY_TOKENS` is the program of the crate dy_count_tokens, which `rt run` leaves in crates/dy_count_tokens/out.
+`PROGRAM` is the program of the crate dy_count_tokens, which `rt run` leaves in crates/dy_count_tokens/out.
 Texts of 64 KiB to 4 MiB are made in a temporary folder: definitions of classes, generic functions,
 methods and macros with comments. Beside it stand Python's tokenize on the same program in Python's
 syntax, a lexer of one regular expression for Dylan's token table in Python's re, and the lexer of
