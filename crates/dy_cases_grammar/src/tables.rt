@@ -189,7 +189,7 @@ pub(crate) static DEFINITIONS: [(&str, &str); 26] = [
         " define class <a> ( <b> ) each-subclass slot x ; end",
     ),
     (
-        "define open class <k> (<a>, <b>) slot x :: <c> = a - b, init-keyword: x: end",
+        "define open class <k> (<a>, <b>) slot x :: <c> = a - b, init-keyword: x:; end",
         " define open class <k> ( <a> , <b> ) slot x :: <c> = a - b , init-keyword: x: ; end",
     ),
     ("define constant a = 1", " define constant a = 1"),
