@@ -17,7 +17,7 @@ use Rattle.dy_build.specs.Code.{final_of}
 use Rattle.dy_build.specs.Endings.{EndsAs, Sends, sent_by}
 use Rattle.dy_build.specs.Words.{Build, usage_text}
 use Rattle.dy_build.specs.Outcome.{Report, Verdict, refused, run_report, build_report, usage_report, IsVerdict, IsCommand}
-use Rattle.dy_build.specs.Command.{PutsLine, final_report, Closes, Outputs, outputs, Nothing, SentFront, Finishes, Done}
+use Rattle.dy_build.specs.Command.{PutsLine, final_report, Closes, Outputs, outputs, Nothing, SentFront, Finishes, Done, TellsFault, TellsFaultOf}
 
 pub appends_front : (old new : Option (List ℕ)) (bytes : List ℕ) → Appends old new bytes → AppendsFront old new bytes
 appends_front old new bytes h = (length bytes, omega arith, subst (Appends old new) (sym (take_all (length bytes) bytes (omega arith))) h)
@@ -110,7 +110,6 @@ pub usage_front : (held : FileMap) (words : Option Build) (line : List ℕ) (res
 usage_front held words line result a b c e is puts which =
     inr (usage_report, subst (λ (w : Option Build). IsCommand w held usage_report) e refl, fronts_of usage_report result (outputs a a b c) (usage_finishes line result a b c is puts) which)
 
--- none of the causes of a status has come
-pub neither : {A B : Type 0} → (A → ⊥) → (B → ⊥) → (A ⊎ B) → ⊥
-neither no_a no_b (inl a) = no_a a
-neither no_a no_b (inr b) = no_b b
+-- the line of a file that failed is that of the words' LID file
+pub told_of : (words : Option Build) (command : Build) (contents : Option FileMap) (ends : Outputs) → Some command ≡ words → TellsFault contents command.lid ends → TellsFaultOf words contents ends
+told_of words command contents ends e told = subst (λ (w : Option Build). TellsFaultOf w contents ends) e told

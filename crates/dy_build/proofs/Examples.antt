@@ -2,7 +2,8 @@
 use Rattle.std.proofs.Common.{◌≡◌, false, [], ◌∷◌, Some, None, refl}
 use Rattle.std.specs.Prelude.{codes}
 use Rattle.std.specs.Fmt.{digits}
-use Rattle.dy_build.specs.Layout.{is_file_name, source_name}
+use Rattle.dy_build.specs.Layout.{source_name}
+use Rattle.dy_lexer.specs.Headers.{is_printable}
 use Rattle.dy_build.specs.Words.{build_with, build_of}
 use Rattle.dy_build.specs.Points.{point_at}
 use Rattle.dy_build.specs.Refusals.{refusal_line, no_file, syntax}
@@ -13,7 +14,7 @@ use Rattle.dy_build.specs.Outcome.{too_long, absent as no_source, refused, file,
 line_end : codes "\n" ≡ 10 ∷ []
 line_end = refl
 
-control_in_file_name : is_file_name (codes "my\nfile") ≡ false
+control_in_file_name : is_printable (codes "my\nfile") ≡ false
 control_in_file_name = refl
 
 beside_lid : source_name (codes "a/b/hello.lid") (codes "library.dylan") ≡ codes "a/b/library.dylan"

@@ -1,16 +1,15 @@
 -- A command has one outcome.
-use Rattle.std.proofs.Common.{◌≡◌, ℕ, Bool, true, false, List, [], ◌∷◌, sym, ap, ◌∙◌, subst, inl, inr}
-use Rattle.std.specs.Prelude.{◌&&◌, Option, Some, None}
+use Rattle.std.proofs.Common.{◌≡◌, ℕ, List, [], ◌∷◌, sym, ap, ◌∙◌, subst, inl, inr}
+use Rattle.std.specs.Prelude.{Option, Some, None}
 use Rattle.dy_base.specs.declared.fault.Fault.{Fault}
 use Rattle.dy_io.specs.Files.{FileMap}
 use Rattle.dy_lexer.specs.declared.source.Lid.{Lid}
-use Rattle.dy_lexer.specs.Sources.{lid_of, IsLid, IsLidFault, Reads, Refuses}
-use Rattle.dy_lexer.proofs.LidFile.{lid_reads, lid_refuses}
-use Rattle.dy_judge.proofs.Readings.{given, gives, both_read, both_refused, read_or_refused}
+use Rattle.dy_lexer.specs.Sources.{IsLid, IsLidFault}
+use Rattle.dy_lexer.proofs.OneReading.{one_lid, one_lid_fault, lid_or_fault}
 use Rattle.dy_judge.proofs.Uniqueness.{verdict_one}
-use Rattle.dy_build.specs.Layout.{is_file_name, source_name}
+use Rattle.dy_build.specs.Layout.{source_name}
 use Rattle.dy_build.specs.Words.{Build, build_of}
-use Rattle.dy_build.specs.Outcome.{Source, absent, too_long, text, source_at, Verdict, refused, File, file, located, located_verdict, JudgesTexts, JudgesFiles, JudgesIf, JudgesNames, JudgesLid, JudgesSource, IsVerdict, Report, build_report, IsCommand, IsOutcome}
+use Rattle.dy_build.specs.Outcome.{Source, absent, too_long, text, source_at, Verdict, refused, File, file, located, located_verdict, JudgesTexts, JudgesFiles, JudgesNames, JudgesLid, JudgesSource, IsVerdict, Report, build_report, IsCommand, IsOutcome}
 
 texts_one : (library : List ℕ) (first second : File) (a b : Verdict) → JudgesTexts library first second a → JudgesTexts library first second b → a ≡ b
 texts_one library first second a b (judged, is, same) (other, also, equal) = same ∙ ap (located_verdict library first second) (verdict_one library first.text second.text judged other is also) ∙ sym equal
@@ -24,31 +23,21 @@ files_one library first second (text bytes) absent a b e f = e ∙ sym f
 files_one library first second (text bytes) too_long a b e f = e ∙ sym f
 files_one library first second (text bytes) (text others) a b e f = texts_one library (file first bytes) (file second others) a b e f
 
-if_one : (named : Bool) (files : FileMap) (lid library first second : List ℕ) (a b : Verdict) → JudgesIf named files lid library first second a → JudgesIf named files lid library first second b → a ≡ b
-if_one true files lid library first second a b e f =
-    files_one library (source_name lid first) (source_name lid second) (source_at files (source_name lid first)) (source_at files (source_name lid second)) a b e f
-if_one false files lid library first second a b e f = e ∙ sym f
-
 names_one : (files : FileMap) (lid library : List ℕ) (names : List (List ℕ)) (a b : Verdict) → JudgesNames files lid library names a → JudgesNames files lid library names b → a ≡ b
 names_one files lid library [] a b e f = e ∙ sym f
 names_one files lid library (first ∷ []) a b e f = e ∙ sym f
-names_one files lid library (first ∷ second ∷ []) a b e f = if_one (is_file_name first && is_file_name second) files lid library first second a b e f
+names_one files lid library (first ∷ second ∷ []) a b e f =
+    files_one library (source_name lid first) (source_name lid second) (source_at files (source_name lid first)) (source_at files (source_name lid second)) a b e f
 names_one files lid library (first ∷ second ∷ third ∷ rest) a b e f = e ∙ sym f
-
-is_read : (bytes : List ℕ) (found : Lid) → IsLid bytes found → Reads (given (lid_of bytes)) found
-is_read bytes found is = lid_reads bytes (given (lid_of bytes)) found (gives (lid_of bytes)) is
-
-is_refused : (bytes : List ℕ) (fault : Fault) → IsLidFault bytes fault → Refuses (given (lid_of bytes)) fault
-is_refused bytes fault is = lid_refuses bytes (given (lid_of bytes)) fault (gives (lid_of bytes)) is
 
 lid_one : (files : FileMap) (lid bytes : List ℕ) (a b : Verdict) → JudgesLid files lid bytes a → JudgesLid files lid bytes b → a ≡ b
 lid_one files lid bytes a b (inl (f, is, e)) (inl (g, also, h)) =
-    e ∙ ap (λ (fault : Fault). refused (located lid (file lid bytes) (file lid bytes) fault)) (both_refused (lid_of bytes) f g (is_refused bytes f is) (is_refused bytes g also)) ∙ sym h
-lid_one files lid bytes a b (inl (f, is, e)) (inr (found, also, judged)) = absurd (read_or_refused (lid_of bytes) found f (is_read bytes found also) (is_refused bytes f is))
-lid_one files lid bytes a b (inr (found, is, judged)) (inl (f, also, e)) = absurd (read_or_refused (lid_of bytes) found f (is_read bytes found is) (is_refused bytes f also))
+    e ∙ ap (λ (fault : Fault). refused (located lid (file lid bytes) (file lid bytes) fault)) (one_lid_fault bytes f g is also) ∙ sym h
+lid_one files lid bytes a b (inl (f, is, e)) (inr (found, also, judged)) = absurd (lid_or_fault bytes found f also is)
+lid_one files lid bytes a b (inr (found, is, judged)) (inl (f, also, e)) = absurd (lid_or_fault bytes found f is also)
 lid_one files lid bytes a b (inr (found, is, judged)) (inr (other, also, judges)) =
     names_one files lid found.library found.files a b judged
-    (subst (λ (l : Lid). JudgesNames files lid l.library l.files b) (both_read (lid_of bytes) other found (is_read bytes other also) (is_read bytes found is)) judges)
+    (subst (λ (l : Lid). JudgesNames files lid l.library l.files b) (one_lid bytes other found also is) judges)
 
 source_one : (files : FileMap) (lid : List ℕ) (source : Source) (a b : Verdict) → JudgesSource files lid source a → JudgesSource files lid source b → a ≡ b
 source_one files lid absent a b e f = e ∙ sym f

@@ -1,5 +1,5 @@
 -- What a command says at its end (own).
-use Rattle.std.specs.Prelude.{◌≡◌, ℕ, ◌⊎◌, List, [], Option}
+use Rattle.std.specs.Prelude.{◌≡◌, ℕ, ◌⊎◌, List, [], Option, Some, None}
 use Rattle.std.specs.List.{concat}
 use Rattle.std.specs.Io.KnownBytes.{Appends}
 use Rattle.dy_base.specs.declared.kind.Kind.TheVariants.{NoFile}
@@ -11,7 +11,10 @@ use Rattle.dy_build.specs.declared.run.execute.RunEnd.TheVariants as ends
 use Rattle.dy_build.specs.Refusals.{refusal_line}
 use Rattle.dy_build.specs.Lines.{file_fault_line, unhandled_line, out_of_fuel_line}
 use Rattle.dy_build.specs.Machine.{Final, Finished, Failed, OutOfFuel, Unfinished}
-use Rattle.dy_build.specs.Outcome.{Report}
+use Rattle.dy_io.specs.Files.{FileMap}
+use Rattle.dy_build.specs.Words.{Build}
+use Rattle.dy_build.specs.Judged.{NamesFile}
+use Rattle.dy_build.specs.Outcome.{Report, IsOutcome}
 
 -- The line was sent and the status is the given one; or the sink or memory failed, and a front of it was sent.
 abbrev pub PutsLine : ℕ → List ℕ → ℕ → Option (List ℕ) → Option (List ℕ) → Type 0
@@ -67,15 +70,24 @@ Refuses misses_before misses_now outputs =
     (why : Refused) × Appends outputs.err_before outputs.err_now (refusal_line why) × (outputs.out_now ≡ outputs.out_before)
     × (why.kind ≡ NoFile → Rose misses_before misses_now)
 
--- The line of a file that failed was sent, or a front of it, and nothing went to the output.
-abbrev pub TellsFault : Outputs → Type 0
-TellsFault outputs =
-    (name : List ℕ) × AppendsFront outputs.err_before outputs.err_now (file_fault_line name) × (outputs.out_now ≡ outputs.out_before)
+-- The line of a file that failed was sent, or a front of it, and nothing went to the output. The file is one that is read for this LID file.
+abbrev pub TellsFault : Option FileMap → List ℕ → Outputs → Type 0
+TellsFault contents lid outputs =
+    (name : List ℕ) × NamesFile contents lid name × AppendsFront outputs.err_before outputs.err_now (file_fault_line name) × (outputs.out_now ≡ outputs.out_before)
 
--- a count of faults has not risen
-abbrev pub Stood : ℕ → ℕ → Type 0
-Stood before now = Rose before now → ⊥
+-- the same of the LID file that the words name
+abbrev pub TellsFaultOf : Option Build → Option FileMap → Outputs → Type 0
+TellsFaultOf None contents outputs = ⊥
+TellsFaultOf (Some command) contents outputs = TellsFault contents command.lid outputs
 
 -- the status is the report's, and all of the report was sent
 abbrev pub Done : Report → ℕ → Outputs → Type 0
 Done report result outputs = (result ≡ report.status) × Sent report outputs
+
+-- what the words come to over these files was sent, with its status
+abbrev pub Outcomes : List (List ℕ) → FileMap → ℕ → Outputs → Type 0
+Outcomes words files result outputs = (report : Report) × IsOutcome words files report × Done report result outputs
+
+-- a front of what the words come to over these files was sent, or nothing
+abbrev pub CutsShort : List (List ℕ) → FileMap → Outputs → Type 0
+CutsShort words files outputs = Nothing outputs ⊎ ((report : Report) × IsOutcome words files report × SentFront report outputs)

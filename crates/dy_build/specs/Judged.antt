@@ -1,5 +1,5 @@
 -- What reading the sources answers.
-use Rattle.std.specs.Prelude.{◌≡◌, ◌≢◌, ◌≤◌, ℕ, length, Result, Ok, Err}
+use Rattle.std.specs.Prelude.{◌≡◌, ◌≢◌, ◌≤◌, ◌⊎◌, ℕ, List, length, Option, Some, Result, Ok, Err, Contains, IsTrue}
 use Rattle.dy_base.specs.declared.kind.Kind.TheVariants.{NoFile}
 use Rattle.dy_io.specs.Causes.{Rose}
 use Rattle.dy_runnable.specs.declared.program.Program.{Program}
@@ -8,8 +8,12 @@ use Rattle.dy_build.specs.declared.source.Source.{Source as Read}
 use Rattle.dy_build.specs.declared.source.Source.TheVariants as read
 use Rattle.dy_build.specs.declared.source.Halt.{Halt}
 use Rattle.dy_build.specs.declared.source.Halt.TheVariants as halts
-use Rattle.dy_build.specs.Layout.{file_limit}
-use Rattle.dy_build.specs.Outcome.{Source, absent, too_long, text, Verdict, refused, accepted}
+use Rattle.dy_io.specs.Files.{FileMap}
+use Rattle.dy_lexer.specs.declared.source.Lid.{Lid}
+use Rattle.dy_lexer.specs.Headers.{is_printable}
+use Rattle.dy_lexer.specs.Sources.{IsLid}
+use Rattle.dy_build.specs.Layout.{file_limit, source_name}
+use Rattle.dy_build.specs.Outcome.{Source, absent, too_long, text, source_at, Verdict, refused, accepted}
 
 abbrev pub seen_source : Read → Source
 seen_source read.Absent = absent
@@ -52,3 +56,30 @@ abbrev pub Interrupts : ℕ → ℕ → Halt → Type 0
 Interrupts before now (halts.Refused why) = ⊥
 Interrupts before now (halts.FileFault name) = Rose before now
 Interrupts before now halts.Memory = Unit {0}
+
+-- The name of a file that failed is such a one.
+abbrev pub TellsName : (List ℕ → Type 0) → Halt → Type 0
+TellsName is (halts.Refused why) = Unit {0}
+TellsName is (halts.FileFault name) = is name
+TellsName is halts.Memory = Unit {0}
+
+-- one of two source files beside a LID file
+abbrev pub IsEither : List ℕ → List ℕ → List ℕ → List ℕ → Type 0
+IsEither lid first second name = (name ≡ source_name lid first) ⊎ (name ≡ source_name lid second)
+
+-- a source file of these, each of which lies beside the LID file
+abbrev pub IsSourceOf : List ℕ → List (List ℕ) → List ℕ → Type 0
+IsSourceOf lid files name = (file : List ℕ) × Contains files file × IsTrue (is_printable file) × (name ≡ source_name lid file)
+
+-- the LID file holds a text that gives this source file
+abbrev pub Gives : FileMap → List ℕ → List ℕ → Type 0
+Gives held lid file = (bytes : List ℕ) × (found : Lid) × (source_at held lid ≡ text bytes) × IsLid bytes found × Contains found.files file
+
+-- a printable name behind the folder of the LID file; where the files tell what they hold, the LID file gives it
+abbrev pub IsBeside : Option FileMap → List ℕ → List ℕ → Type 0
+IsBeside contents lid name =
+    (file : List ℕ) × IsTrue (is_printable file) × (name ≡ source_name lid file) × ((held : FileMap) → contents ≡ Some held → Gives held lid file)
+
+-- a file that is read for this LID file: that file itself, or one beside it
+abbrev pub NamesFile : Option FileMap → List ℕ → List ℕ → Type 0
+NamesFile contents lid name = (name ≡ lid) ⊎ IsBeside contents lid name

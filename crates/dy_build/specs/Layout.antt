@@ -1,6 +1,6 @@
 -- The files of a library, as this compiler takes them today (own).
-use Rattle.std.specs.Prelude.{ℕ, Bool, ◌&&◌, ◌==◌, nat_eq, nat_le, List, [], ◌∷◌, ◌++◌, if◌then◌else◌}
-use Rattle.std.specs.List.{list_any, list_all}
+use Rattle.std.specs.Prelude.{ℕ, Bool, ◌==◌, nat_eq, List, [], ◌∷◌, ◌++◌, if◌then◌else◌}
+use Rattle.std.specs.List.{list_any}
 use Rattle.std.specs.Cmp.Lexicographic.{pointwise}
 
 -- one text, byte by byte
@@ -13,13 +13,6 @@ file_limit = 4194304
 
 abbrev pub is_line_feed : ℕ → Bool
 is_line_feed byte = byte == 10
-
--- a byte of ASCII that is no control byte
-abbrev pub is_printable : ℕ → Bool
-is_printable byte = nat_le 32 byte && nat_le byte 126
-
-abbrev pub is_file_name : List ℕ → Bool
-is_file_name bytes = list_all is_printable bytes
 
 abbrev pub has_slash : List ℕ → Bool
 has_slash bytes = list_any (λ byte. byte == 47) bytes

@@ -1,5 +1,5 @@
 -- What a command comes to (own).
-use Rattle.std.specs.Prelude.{◌≡◌, ◌⊎◌, ℕ, ◌==◌, nat_le, List, [], ◌∷◌, length, Option, Some, None, Bool, true, false, ◌&&◌, if◌then◌else◌}
+use Rattle.std.specs.Prelude.{◌≡◌, ◌⊎◌, ℕ, ◌==◌, nat_le, List, [], ◌∷◌, length, Option, Some, None, if◌then◌else◌}
 use Rattle.std.specs.List.{concat}
 use Rattle.std.specs.FinMap as map
 use Rattle.dy_base.specs.declared.fault.Fault.{Fault}
@@ -12,7 +12,7 @@ use Rattle.dy_judge.specs.Verdicts as sources
 use Rattle.dy_build.specs.declared.source.File.{File as Held}
 use Rattle.dy_build.specs.declared.refused.Position.{Position}
 use Rattle.dy_build.specs.declared.refused.Refused.{Refused}
-use Rattle.dy_build.specs.Layout.{file_limit, is_file_name, source_name}
+use Rattle.dy_build.specs.Layout.{file_limit, source_name}
 use Rattle.dy_build.specs.Words.{Build, build_of, usage_text}
 use Rattle.dy_build.specs.Refusals.{refusal_line, no_file, position_at, syntax}
 use Rattle.dy_build.specs.Points.{point_at, start}
@@ -93,13 +93,9 @@ JudgesNamed files lid library first second verdict =
     let b = source_name lid second in
     JudgesFiles library a b (source_at files a) (source_at files b) verdict
 
-abbrev pub JudgesIf : Bool → FileMap → List ℕ → List ℕ → List ℕ → List ℕ → Verdict → Type 0
-JudgesIf true files lid library first second verdict = JudgesNamed files lid library first second verdict
-JudgesIf false files lid library first second verdict = verdict ≡ refused (syntax lid lid start)
-
--- A LID file is to name two files. The names that one gives are such that may be read.
+-- A LID file is to name two files.
 abbrev pub JudgesNames : FileMap → List ℕ → List ℕ → List (List ℕ) → Verdict → Type 0
-JudgesNames files lid library (first ∷ second ∷ []) verdict = JudgesIf (is_file_name first && is_file_name second) files lid library first second verdict
+JudgesNames files lid library (first ∷ second ∷ []) verdict = JudgesNamed files lid library first second verdict
 JudgesNames files lid library _ verdict = verdict ≡ refused (syntax lid lid start)
 
 -- what the text of a LID file comes to: its first fault, or what the files that it names come to

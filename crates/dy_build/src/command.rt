@@ -8,8 +8,8 @@ ghost use Rattle.dy_build.specs.Meaning.{program_meaning};
 ghost use Rattle.dy_build.specs.Machine.{Final};
 ghost use Rattle.dy_build.specs.Endings.{EndsAs};
 ghost use Rattle.dy_build.specs.Refusals.{refusal_line};
-ghost use Rattle.dy_build.specs.Outcome.{Verdict, Report, run_report, build_report, usage_report, IsVerdict, IsOutcome};
-ghost use Rattle.dy_build.specs.Command.{PutsLine, Closes, Finishes, Refuses, TellsFault, Stood, Done, Nothing, SentFront, outputs};
+ghost use Rattle.dy_build.specs.Outcome.{Verdict, run_report, build_report, usage_report, IsVerdict};
+ghost use Rattle.dy_build.specs.Command.{PutsLine, Closes, Finishes, Refuses, TellsFault, TellsFaultOf, Done, Nothing, Outcomes, CutsShort, outputs};
 ghost use Rattle.dy_build.specs.Words.{build_of};
 ghost use Rattle.dy_build.specs.Points.{point_behind, point_at};
 ghost use Rattle.dy_build.specs.Lines.{file_fault_line};
@@ -116,7 +116,10 @@ fn build<F: Files, O: Sink, E: Sink>(
     ensures refused { result ≡ 2 → Refuses (F.misses files.old) (F.misses files.new) (outputs (O.contents out.old) (O.contents out.new) (E.contents err.old) (E.contents err.new)) }
     ensures accepted { result ≢ 3 }
     ensures failed { result ≡ 4 → Rose (F.faults files.old) (F.faults files.new) }
-    ensures failed_line { result ≡ 4 → TellsFault (outputs (O.contents out.old) (O.contents out.new) (E.contents err.old) (E.contents err.new)) }
+    ensures failed_line { result ≡ 4
+        → TellsFault (F.contents files.old) lid.now
+        (outputs (O.contents out.old) (O.contents out.new)
+        (E.contents err.old) (E.contents err.new)) }
     ensures status { result ≤ 7 }
     ensures cut { result ≡ 5 → Rose (O.faults out.old) (O.faults out.new) ⊎ Rose (E.faults err.old) (E.faults err.new) }
     ensures contents { F.contents files.new ≡ F.contents files.old }
@@ -149,7 +152,11 @@ fn build<F: Files, O: Sink, E: Sink>(
 /// | 6 | memory ran out | nothing more |
 /// | 7 | the program spent its fuel and wanted one unit more | `out of fuel` |
 ///
-/// After 5 and 6 a front of the whole output was sent.
+/// After 5 and 6 a front of the whole output was sent, or nothing. `NAME` is the LID file, or one of
+/// the source files that it names.
+///
+/// Where the files do not tell what they hold, as those of the host do not, the clauses say which
+/// status and which bytes come together, and not why.
 pub fn run_words<F: Files, O: Sink, E: Sink>(
     alloc: Global,
     words: &Vec<String>,
@@ -157,20 +164,37 @@ pub fn run_words<F: Files, O: Sink, E: Sink>(
     out: &mut O,
     err: &mut E,
 ) -> u8
-    // Where nothing fails, the status and what was sent are those of the words' outcome.
-    ensures outcome { (held : FileMap) → F.contents files.old ≡ Some held → Stood (F.faults files.old) (F.faults files.new) → Stood (O.faults out.old) (O.faults out.new) → Stood (E.faults err.old) (E.faults err.new) → result ≢ 6
-        → (report : Report) × IsOutcome (map string_bytes words.now.items) held report × Done report result (outputs (O.contents out.old) (O.contents out.new) (E.contents err.old) (E.contents err.new)) }
-    ensures cut_short { (held : FileMap) → F.contents files.old ≡ Some held → (result ≡ 5) ⊎ (result ≡ 6)
-        → Nothing (outputs (O.contents out.old) (O.contents out.new) (E.contents err.old) (E.contents err.new)) ⊎ ((report : Report) × IsOutcome (map string_bytes words.now.items) held report × SentFront report (outputs (O.contents out.old) (O.contents out.new) (E.contents err.old) (E.contents err.new))) }
+    // The status and what was sent are those of the words' outcome, unless a file, a sink or memory
+    // failed; then a front of it was sent, or nothing.
+    ensures outcome { (held : FileMap) → F.contents files.old ≡ Some held
+        → result ≢ 4 → result ≢ 5 → result ≢ 6
+        → Outcomes (map string_bytes words.now.items) held result
+        (outputs (O.contents out.old) (O.contents out.new)
+        (E.contents err.old) (E.contents err.new)) }
+    ensures cut_short { (held : FileMap) → F.contents files.old ≡ Some held
+        → (result ≡ 5) ⊎ (result ≡ 6)
+        → CutsShort (map string_bytes words.now.items) held
+        (outputs (O.contents out.old) (O.contents out.new)
+        (E.contents err.old) (E.contents err.new)) }
 
     // Each status has its cause, whatever the files tell.
-    ensures refused { result ≡ 2 → Refuses (F.misses files.old) (F.misses files.new) (outputs (O.contents out.old) (O.contents out.new) (E.contents err.old) (E.contents err.new)) }
+    ensures refused { result ≡ 2
+        → Refuses (F.misses files.old) (F.misses files.new)
+        (outputs (O.contents out.old) (O.contents out.new)
+        (E.contents err.old) (E.contents err.new)) }
     ensures usage_only { result ≡ 3 → build_of (map string_bytes words.now.items) ≡ None }
-    ensures usage { build_of (map string_bytes words.now.items) ≡ None → Stood (E.faults err.old) (E.faults err.new) → result ≢ 6
-        → Done usage_report result (outputs (O.contents out.old) (O.contents out.new) (E.contents err.old) (E.contents err.new)) }
+    ensures usage { build_of (map string_bytes words.now.items) ≡ None
+        → result ≢ 5 → result ≢ 6
+        → Done usage_report result
+        (outputs (O.contents out.old) (O.contents out.new)
+        (E.contents err.old) (E.contents err.new)) }
     ensures failed { result ≡ 4 → Rose (F.faults files.old) (F.faults files.new) }
-    ensures failed_line { result ≡ 4 → TellsFault (outputs (O.contents out.old) (O.contents out.new) (E.contents err.old) (E.contents err.new)) }
-    ensures cut { result ≡ 5 → Rose (O.faults out.old) (O.faults out.new) ⊎ Rose (E.faults err.old) (E.faults err.new) }
+    ensures failed_line { result ≡ 4
+        → TellsFaultOf (build_of (map string_bytes words.now.items)) (F.contents files.old)
+        (outputs (O.contents out.old) (O.contents out.new)
+        (E.contents err.old) (E.contents err.new)) }
+    ensures cut { result ≡ 5
+        → Rose (O.faults out.old) (O.faults out.new) ⊎ Rose (E.faults err.old) (E.faults err.new) }
     ensures status { result ≤ 7 }
 
     // No file is written, and no count falls.

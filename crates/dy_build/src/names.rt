@@ -1,25 +1,11 @@
 //! The names under which source files are read.
 
 ghost use Rattle.std.specs.Prelude.{◌≡◌, IfOk, IsTrue, string_bytes};
-ghost use Rattle.std.specs.List.{list_all};
-ghost use Rattle.dy_build.specs.Layout.{is_printable, is_file_name, folder_of, source_name};
+ghost use Rattle.dy_lexer.specs.Headers.{is_printable};
+ghost use Rattle.dy_build.specs.Layout.{folder_of, source_name};
 
 use std::alloc::{AllocError, Global};
 use std::str;
-
-/// A byte of ASCII that is no control byte.
-fn is_printable(byte: u8) -> bool
-    ensures { result ≡ is_printable byte }
-{
-    byte >= b' ' && byte <= b'~'
-}
-
-/// Whether bytes may be the name of a file.
-pub(crate) fn is_file_name(bytes: &[u8]) -> bool
-    ensures { result ≡ is_file_name bytes.now }
-{
-    bytes.iter().all(|byte| is_printable(*byte))
-}
 
 /// The name up to its last slash.
 fn folder_of(name: &str) -> &str
@@ -33,7 +19,7 @@ fn folder_of(name: &str) -> &str
 
 /// A file's name as text.
 fn text_of(file: &[u8]) -> &str
-    requires { IsTrue (is_file_name file.now) }
+    requires { IsTrue (is_printable file.now) }
     ensures { result.now ≡ file.now }
 {
     match str::from_utf8(file) {
@@ -44,7 +30,7 @@ fn text_of(file: &[u8]) -> &str
 
 /// The name under which a source file that the LID file `lid` names is read: it lies beside that file.
 pub(crate) fn source_name(alloc: Global, lid: &str, file: &[u8]) -> Result<String, AllocError>
-    requires { IsTrue (is_file_name file.now) }
+    requires { IsTrue (is_printable file.now) }
     ensures { IfOk result (λ name. string_bytes name ≡ source_name lid.now file.now) }
 {
     let mut name = String::from_str(alloc, folder_of(lid))?;

@@ -3,13 +3,16 @@
 ghost use Rattle.std.specs.Prelude.{◌≡◌, ◌≢◌, ◌≤◌, IfOk, IfErr, Some, IsTrue, length};
 ghost use Rattle.dy_io.specs.Causes.{Rose};
 ghost use Rattle.dy_io.specs.Files.{FileMap};
-ghost use Rattle.dy_build.specs.Layout.{file_limit, is_file_name};
+ghost use Rattle.dy_build.specs.Layout.{file_limit, source_name};
+ghost use Rattle.dy_lexer.specs.Headers.{is_printable, are_printable};
+ghost use Rattle.dy_lexer.specs.Sources.{IsLid};
+ghost use Rattle.dy_lexer.specs.declared.source.Lid.{Lid};
 ghost use Rattle.dy_build.specs.Points.{start};
 ghost use Rattle.dy_build.specs.Refusals.{syntax};
 ghost use Rattle.dy_build.specs.Outcome.{source_of, source_at, file_of, file_at, position_of, located, JudgesTexts, JudgesFiles, JudgesNamed, JudgesNames, JudgesLid, IsVerdict};
-ghost use Rattle.dy_build.specs.Judged.{seen_source, IsWithin, Interrupts, Fails, Misses, Judged, IsPlain};
+ghost use Rattle.dy_build.specs.Judged.{seen_source, IsWithin, Interrupts, Fails, Misses, Judged, IsPlain, TellsName, IsEither, IsSourceOf, NamesFile};
 
-use crate::names::{is_file_name, source_name};
+use crate::names::source_name;
 use crate::point::start;
 use crate::refused::{Position, Refused, position_at};
 use dy_base::{Fault, Place, Refusal, Text};
@@ -68,6 +71,7 @@ fn read_source<F: Files>(alloc: Global, files: &mut F, name: &str) -> Result<Sou
     ensures within { IfOk result IsWithin }
     ensures missed { IfOk result (λ source. source ≡ Source.Absent → Rose (F.misses files.old) (F.misses files.new)) }
     ensures failed { IfErr result (Interrupts (F.faults files.old) (F.faults files.new)) }
+    ensures named { IfErr result (TellsName (λ told. told ≡ name.now)) }
     ensures contents { F.contents files.new ≡ F.contents files.old }
     ensures misses { F.misses files.old ≤ F.misses files.new }
     ensures faults { F.faults files.old ≤ F.faults files.new }
@@ -204,11 +208,12 @@ fn named_program<F: Files>(
     first: &[u8],
     second: &[u8],
 ) -> Result<Program, Halt>
-    requires first { IsTrue (is_file_name first.now) }
-    requires second { IsTrue (is_file_name second.now) }
+    requires first { IsTrue (is_printable first.now) }
+    requires second { IsTrue (is_printable second.now) }
     ensures verdict { (held : FileMap) → F.contents files.old ≡ Some held → Judged (JudgesNamed held lid.now library.now first.now second.now) result }
     ensures missed { IfErr result (Misses (F.misses files.old) (F.misses files.new)) }
     ensures failed { IfErr result (Fails (F.faults files.old) (F.faults files.new)) }
+    ensures named { IfErr result (TellsName (IsEither lid.now first.now second.now)) }
     ensures contents { F.contents files.new ≡ F.contents files.old }
     ensures misses { F.misses files.old ≤ F.misses files.new }
     ensures faults { F.faults files.old ≤ F.faults files.new }
@@ -249,22 +254,22 @@ fn library_program<F: Files>(
     lid: &str,
     found: &Lid,
 ) -> Result<Program, Halt>
+    requires { IsTrue (are_printable found.now.files) }
     ensures verdict { (held : FileMap) → F.contents files.old ≡ Some held → Judged (JudgesNames held lid.now found.now.library found.now.files) result }
     ensures missed { IfErr result (Misses (F.misses files.old) (F.misses files.new)) }
     ensures failed { IfErr result (Fails (F.faults files.old) (F.faults files.new)) }
+    ensures named { IfErr result (TellsName (IsSourceOf lid.now found.now.files)) }
     ensures contents { F.contents files.new ≡ F.contents files.old }
     ensures misses { F.misses files.old ≤ F.misses files.new }
     ensures faults { F.faults files.old ≤ F.faults files.new }
 {
-    let names = found.files.as_slice();
-    if names.len() == 2 {
-        let first = names[0].bytes();
-        let second = names[1].bytes();
-        if is_file_name(first) && is_file_name(second) {
-            return named_program(alloc, files, lid, found.library.bytes(), first, second);
+    match found.files.as_slice() {
+        [first, second] => {
+            let library = found.library.bytes();
+            named_program(alloc, files, lid, library, first.bytes(), second.bytes())
         }
+        _ => Err(Halt::Refused(lid_fault(alloc, lid.as_bytes())?)),
     }
-    Err(Halt::Refused(lid_fault(alloc, lid.as_bytes())?))
 }
 
 /// The program of a LID file of this text.
@@ -278,6 +283,7 @@ fn lid_program<F: Files>(
     ensures verdict { (held : FileMap) → F.contents files.old ≡ Some held → Judged (JudgesLid held lid.now text.now) result }
     ensures missed { IfErr result (Misses (F.misses files.old) (F.misses files.new)) }
     ensures failed { IfErr result (Fails (F.faults files.old) (F.faults files.new)) }
+    ensures named { IfErr result (TellsName (λ told. (found : Lid) × IsLid text.now found × IsSourceOf lid.now found.files told)) }
     ensures contents { F.contents files.new ≡ F.contents files.old }
     ensures misses { F.misses files.old ≤ F.misses files.new }
     ensures faults { F.faults files.old ≤ F.faults files.new }
@@ -306,6 +312,7 @@ pub(crate) fn read_program<F: Files>(
     ensures verdict { (held : FileMap) → F.contents files.old ≡ Some held → Judged (IsVerdict held lid.now) result }
     ensures missed { IfErr result (Misses (F.misses files.old) (F.misses files.new)) }
     ensures failed { IfErr result (Fails (F.faults files.old) (F.faults files.new)) }
+    ensures named { IfErr result (TellsName (NamesFile (F.contents files.old) lid.now)) }
     ensures contents { F.contents files.new ≡ F.contents files.old }
     ensures misses { F.misses files.old ≤ F.misses files.new }
     ensures faults { F.faults files.old ≤ F.faults files.new }

@@ -36,13 +36,9 @@ fn write_slot(out: &mut Written, slot: &DraftSlot) {
 fn write_class(out: &mut Written, class: &DraftClass) {
     out.token("(class ", &class.name);
     out.word(" (supers");
-    for name in &class.supers {
-        out.token(" ", name);
-    }
+    out.tokens(&class.supers);
     out.word(")");
-    out.flag(" open", class.is_open);
-    out.flag(" abstract", class.is_abstract);
-    out.flag(" primary", class.is_primary);
+    out.tokens(&class.adjectives);
     for slot in &class.slots {
         write_slot(out, slot);
     }
@@ -66,8 +62,9 @@ fn write_top(out: &mut Written, top: &DraftTop) {
 
 fn write_variable(out: &mut Written, variable: &DraftVariable) {
     match variable {
-        DraftVariable::Function(name, code) => {
+        DraftVariable::Function(adjectives, name, code) => {
             out.token("(function ", name);
+            out.tokens(adjectives);
             write_lambda(out, " ", code);
         }
         DraftVariable::Type(name, declared, meant) => {
@@ -84,13 +81,13 @@ pub(crate) fn write_draft(out: &mut Written, draft: &Draft) {
         Draft::Class(class) => write_class(out, class),
         Draft::Generic(generic) => {
             out.token("(generic ", &generic.name);
-            out.flag(" open", generic.is_open);
+            out.tokens(&generic.adjectives);
             write_params(out, &generic.params);
             write_results(out, &generic.results);
         }
         Draft::Method(method) => {
             out.token("(method-of ", &method.generic);
-            out.flag(" sealed", method.is_sealed);
+            out.tokens(&method.adjectives);
             out.maybe(" next ", &method.next);
             write_lambda(out, " ", &method.code);
         }

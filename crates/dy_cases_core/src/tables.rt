@@ -141,7 +141,7 @@ pub(crate) static STATEMENTS: [(&str, &str); 31] = [
 ];
 
 /// Each definition, each adjective and each option of a slot.
-pub(crate) static DEFINITIONS: [(&str, &str); 24] = [
+pub(crate) static DEFINITIONS: [(&str, &str); 30] = [
     (
         "define class <a> (<b>, <c>) end",
         "(class <a> (supers <b> <c>))",
@@ -149,6 +149,10 @@ pub(crate) static DEFINITIONS: [(&str, &str); 24] = [
     (
         "define open abstract primary class <a> (<b>) end",
         "(class <a> (supers <b>) open abstract primary)",
+    ),
+    (
+        "define free sealed concrete class <a> (<b>) end",
+        "(class <a> (supers <b>) free sealed concrete)",
     ),
     (
         "define class <a> (<b>) slot x; end",
@@ -167,8 +171,12 @@ pub(crate) static DEFINITIONS: [(&str, &str); 24] = [
         "(class <a> (supers <b>) (Shared x = 1))",
     ),
     (
-        "define class <a> (<b>) each-subclass slot x, init-function: f, setter: put; end",
-        "(class <a> (supers <b>) (EachSubclass x setter put by f))",
+        "define class <a> (<b>) slot x, init-function: f, setter: put; end",
+        "(class <a> (supers <b>) (Instance x setter put by f))",
+    ),
+    (
+        "define class <a> (<b>) each-subclass slot x = 1; end",
+        "(class <a> (supers <b>) (EachSubclass x setter x-setter = 1))",
     ),
     (
         "define class <a> (<b>) virtual slot x; slot y; end",
@@ -187,6 +195,10 @@ pub(crate) static DEFINITIONS: [(&str, &str); 24] = [
     (
         "define constant <t> = singleton(<a>)",
         "(type <t> = (single <a>))",
+    ),
+    (
+        "define constant a = limited(<integer>, min: 0, min: 1)",
+        "(constant a = (call limited <integer> min: 0 min: 1))",
     ),
     (
         "define constant a = limited(b, min: 0)",
@@ -213,12 +225,24 @@ pub(crate) static DEFINITIONS: [(&str, &str); 24] = [
         "(generic g open (params a #rest r #key k:k #all-keys) (results any #rest any))",
     ),
     (
+        "define sealed generic g ()",
+        "(generic g sealed (params) (results #rest any))",
+    ),
+    (
+        "define inline sealed may-inline method f (x) x end",
+        "(method-of f inline sealed may-inline next next-method (method (params x) (defaults) (results #rest any) (body x)))",
+    ),
+    (
         "define method f (x) x end",
         "(method-of f next next-method (method (params x) (defaults) (results #rest any) (body x)))",
     ),
     (
         "define sealed method f (x, #next n) => (y :: <a>) n end",
         "(method-of f sealed (method (params x #next n) (defaults) (results <a>) (body n)))",
+    ),
+    (
+        "define inline-only function f () 1 end",
+        "(function f inline-only (method (params) (defaults) (results #rest any) (body 1)))",
     ),
     (
         "define function f () 1 end",

@@ -44,6 +44,13 @@ impl Written {
         self.bytes(token.text.bytes());
     }
 
+    /// Each token behind a blank.
+    pub(crate) fn tokens(&mut self, tokens: &[Token]) {
+        for token in tokens {
+            self.token(" ", token);
+        }
+    }
+
     /// A word and a token, if there is one.
     pub(crate) fn maybe(&mut self, word: &str, token: &Option<Token>) {
         if let Some(token) = token {

@@ -317,8 +317,9 @@ pub(crate) static FAULTY: [(&str, &str); 60] = [
     ("define generic g (#key k = 1)", " Syntax @0"),
 ];
 
-/// Trees of 200 levels and of 201: a text, and what is expected, by parts with the number of times that each stands there.
-pub(crate) static DEPTHS: [(&[(&str, usize)], &[(&str, usize)]); 8] = [
+/// Trees of 200 levels and of 201: a text, and what is expected, by parts with the number of times
+/// that each stands there.
+pub(crate) static DEPTHS: [(&[(&str, usize)], &[(&str, usize)]); 16] = [
     (
         &[("a", 1), (" + a", 199)],
         &[(" (", 198), (" a + a", 1), (" ) + a", 198)],
@@ -353,4 +354,53 @@ pub(crate) static DEPTHS: [(&[(&str, usize)], &[(&str, usize)]); 8] = [
         &[("define method f () a", 1), (" + a", 299), ("; a b end", 1)],
         &[(" Syntax @0", 1)],
     ),
+    // The value of a shared slot fits no better where it is too deep.
+    (
+        &[
+            ("define class <a> (<b>) class slot x = a", 1),
+            (" + a", 299),
+            ("; end", 1),
+        ],
+        &[(" Syntax @0", 1)],
+    ),
+    (
+        &[
+            ("define class <a> (<b>) slot x = a", 1),
+            (" + a", 299),
+            ("; end", 1),
+        ],
+        &[(" TooDeep @0", 1)],
+    ),
+    // The value that a parameter is compared with is a part of the tree, as its type is.
+    (
+        &[("~ ", 198), ("method (x == 5) end", 1)],
+        &[
+            (" ~", 1),
+            (" ( ~", 197),
+            (" method ( x == 5 ) ; end", 1),
+            (" )", 197),
+        ],
+    ),
+    (
+        &[("~ ", 199), ("method (x == 5) end", 1)],
+        &[(" TooDeep @0", 1)],
+    ),
+    (
+        &[("~ ", 199), ("method (y, x == #()) end", 1)],
+        &[(" TooDeep @0", 1)],
+    ),
+    (
+        &[("~ ", 199), ("method (x :: <a>) end", 1)],
+        &[(" TooDeep @0", 1)],
+    ),
+    (
+        &[("~ ", 199), ("method (x) end", 1)],
+        &[
+            (" ~", 1),
+            (" ( ~", 198),
+            (" method ( x ) ; end", 1),
+            (" )", 198),
+        ],
+    ),
+    (&[("~ ", 200), ("method (x) end", 1)], &[(" TooDeep @0", 1)]),
 ];

@@ -2,7 +2,7 @@
 
 ghost use Rattle.std.specs.Prelude.{◌<◌, ◌^◌, length};
 
-use crate::tables;
+use crate::{parts, tables};
 use dy_base::{Fault, Refusal};
 use dy_cases_text::{fragments_of, repeated};
 use dy_grammar::{parse, unparse};
@@ -102,11 +102,35 @@ fn canonical_texts(rt: HostRuntime) -> Result<(), Fail> {
         tables::STATEMENTS.as_slice(),
         tables::DEFINITIONS.as_slice(),
         tables::FAULTY.as_slice(),
+        parts::BOUNDS.as_slice(),
     ];
     for table in tables {
         for &(text, expected) in table {
             check(&rt, text, expected)?;
         }
+    }
+    Ok(())
+}
+
+/// The text between a front and an end.
+fn between(alloc: Global, front: &str, text: &str, end: &str) -> Result<String, AllocError> {
+    let mut out = String::from_str(alloc, front)?;
+    out.push_str(text)?;
+    out.push_str(end)?;
+    Ok(out)
+}
+
+#[test]
+fn slots(rt: HostRuntime) -> Result<(), Fail> {
+    let alloc = rt.alloc();
+    for &(slot, expected) in &parts::SLOTS {
+        let text = between(alloc, "define class <a> (<b>) ", slot, "; end")?;
+        let expected = between(alloc, " define class <a> ( <b> )", expected, " ; end")?;
+        check(&rt, text.as_str(), expected.as_str())?;
+    }
+    for slot in &parts::UNFIT_SLOTS {
+        let text = between(alloc, "define class <a> (<b>) ", *slot, "; end")?;
+        check(&rt, text.as_str(), " Syntax @0")?;
     }
     Ok(())
 }

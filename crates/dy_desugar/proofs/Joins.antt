@@ -8,10 +8,10 @@ use Rattle.dy_tree.specs.declared.expression.Parameters.{Parameters}
 use Rattle.dy_term.specs.Types.{CoreType}
 use Rattle.dy_term.specs.Drafts as core
 use Rattle.dy_term.specs.Drafts.{Core, CoreArm, CoreCatch, CoreClause, CoreLambda, CoreLimit, CoreTest, MaybeCore, cond, choice_of, cores_of, arms_of, catches_of, clauses_of}
-use Rattle.dy_drafts.specs.Parts.{choose, not_core, false_core}
+use Rattle.dy_tree.specs.declared.brackets.Guard.{Guard}
 use Rattle.dy_rules.specs.SeenForms.{seen_tree, seen_parameters}
 use Rattle.dy_desugar.specs.Table as table
-use Rattle.dy_desugar.specs.Table.{core_of}
+use Rattle.dy_desugar.specs.Table.{core_of, guarded_core}
 use Rattle.dy_desugar.specs.Lists.{body_core, parameter_defaults, lambda_core}
 
 -- the core of an expression that is held in a box
@@ -29,8 +29,8 @@ cond_same pairs test test' body body' last last' others e t b l =
     ∙ ap (λ (x : Core). cond (choice_of ((test', x) ∷ others) last)) b
     ∙ ap (λ (x : Core). cond (choice_of ((test', body') ∷ others) x)) l
 
-pub unless_same : (test test' body body' : Core) → test ≡ test' → body ≡ body' → choose test false_core body ≡ choose test' false_core body'
-unless_same test test' body body' t b = ap (λ (x : Core). choose x false_core body) t ∙ ap (λ (x : Core). choose test' false_core x) b
+pub guarded_same : (guard : Guard) (test test' body body' : Core) → test ≡ test' → body ≡ body' → guarded_core guard test body ≡ guarded_core guard test' body'
+guarded_same guard test test' body body' t b = ap (λ (x : Core). guarded_core guard x body) t ∙ ap (λ (x : Core). guarded_core guard test' x) b
 
 pub select_same : (value value' : Core) (test test' last last' : MaybeCore) (arms arms' : List CoreArm) → value ≡ value' → test ≡ test' → arms ≡ arms' → last ≡ last'
     → core.select value test (arms_of arms) last ≡ core.select value' test' (arms_of arms') last'
@@ -39,12 +39,6 @@ select_same value value' test test' last last' arms arms' v t a l =
     ∙ ap (λ (x : MaybeCore). core.select value' x (arms_of arms) last) t
     ∙ ap (λ (xs : List CoreArm). core.select value' test' (arms_of xs) last) a
     ∙ ap (λ (x : MaybeCore). core.select value' test' (arms_of arms') x) l
-
-pub while_same : (test test' body body' : Core) → test ≡ test' → body ≡ body' → core.loop test body ≡ core.loop test' body'
-while_same test test' body body' t b = ap (λ (x : Core). core.loop x body) t ∙ ap (λ (x : Core). core.loop test' x) b
-
-pub until_same : (test test' body body' : Core) → test ≡ test' → body ≡ body' → core.loop (not_core test) body ≡ core.loop (not_core test') body'
-until_same test test' body body' t b = ap (λ (x : Core). core.loop (not_core x) body) t ∙ ap (λ (x : Core). core.loop (not_core test') x) b
 
 pub for_same : (clauses clauses' : List CoreClause) (test test' : CoreTest) (body body' : Core) (last last' : MaybeCore) → clauses ≡ clauses' → test ≡ test' → body ≡ body' → last ≡ last'
     → core.for (clauses_of clauses) test body last ≡ core.for (clauses_of clauses') test' body' last'

@@ -4,7 +4,9 @@ use Rattle.std.specs.Prelude.{Bool, Option, Some, None, option_map}
 use Rattle.std.specs.Global.{Vec, Box}
 use Rattle.dy_tree.specs.declared.token.Token.{Token}
 use Rattle.dy_tree.specs.declared.expression.Expression.{Expression}
-use Rattle.dy_tree.specs.declared.expression.Expression.TheVariants.{Call, Begin, Method, If, Unless, While, Until, Case, Select, Block, For}
+use Rattle.dy_tree.specs.declared.expression.Expression.TheVariants.{Call}
+use Rattle.dy_tree.specs.declared.expression.Statement.TheVariants.{Begin, Method, If, Guarded, Case, Select, Block, For}
+use Rattle.dy_tree.specs.declared.brackets.Guard.{Guard}
 use Rattle.dy_tree.specs.declared.expression.Argument.{Argument}
 use Rattle.dy_tree.specs.declared.expression.Argument.TheViews.{the_lemmas}
 use Rattle.dy_tree.specs.declared.expression.Item.{Item}
@@ -27,48 +29,44 @@ use Rattle.dy_term.specs.Drafts.{Core, cond, choice_of, cores_of, arms_of, selec
 use Rattle.dy_term.specs.Types.{integer}
 use Rattle.dy_rules.specs.SeenTypes.{seen_type, seen_variable}
 use Rattle.dy_drafts.specs.Shapes.{declared_or}
-use Rattle.dy_drafts.specs.Parts.{choose, not_core, false_core, setting, setter_at}
-use Rattle.dy_rules.specs.SeenForms.{seen_tree, seen_item, seen_for_clause}
+use Rattle.dy_drafts.specs.Parts.{setting, setter_at}
+use Rattle.dy_rules.specs.SeenForms.{seen_tree, seen_statement, seen_item, seen_for_clause}
 use Rattle.dy_desugar.specs.Table as table
-use Rattle.dy_desugar.specs.Table.{core_of, name_in}
+use Rattle.dy_desugar.specs.Table.{core_of, name_in, guarded_core}
 use Rattle.dy_desugar.specs.Lists.{tree_core, argument_terms, item_core, body_core, otherwise_core, maybe_body, maybe_tree, maybe_boxed, alternative_core, case_core, arm_core, lambda_core, method_core, block_clauses, for_clause_core, bound_core, stop_core}
 use Rattle.dy_desugar.proofs.Places.{named_setter, no_setter}
-use Rattle.dy_desugar.proofs.Rows.{arguments_items, body_items, alternatives_items, cases_items, arms_items, clauses_items, for_items, otherwise_held, body_held, step_held, bound_held, selector_held, stop_held, defaults_same, methods_items}
+use Rattle.dy_rules.proofs.Held.{inner_clauses}
+use Rattle.dy_desugar.proofs.Rows.{arguments_items, body_items, alternatives_items, cases_items, arms_items, for_items, otherwise_held, body_held, step_held, bound_held, selector_held, stop_held, defaults_same, methods_items}
 
 pub at_call : (function : Box Expression) (arguments : Vec Argument) → core_of (seen_tree (Call function arguments)) ≡ core.call (core_of (seen_tree function.value)) (cores_of (flat_map argument_terms arguments.items))
 at_call function arguments = search (rules, the_lemmas, arguments_items)
 
-pub at_begin : (word : Token) (body : Vec Item) → core_of (seen_tree (Begin word body)) ≡ body_core body.items
+pub at_begin : (word : Token) (body : Vec Item) → core_of (seen_statement (Begin word body)) ≡ body_core body.items
 at_begin word body = search (rules, the_lemmas, body_items)
 
-pub at_method : (word : Token) (row : Box Parameters) (body : Vec Item) → core_of (seen_tree (Method word row body)) ≡ method (lambda_core row.value body.items)
+pub at_method : (word : Token) (row : Box Parameters) (body : Vec Item) → core_of (seen_statement (Method word row body)) ≡ method (lambda_core row.value body.items)
 at_method word row body = search (rules, the_lemmas, body_items, defaults_same)
 
-pub at_if : (word : Token) (test : Box Expression) (body : Vec Item) (alternatives : Vec Alternative) (last : Option (Vec Item)) → core_of (seen_tree (If word test body alternatives last))
+pub at_if : (word : Token) (test : Box Expression) (body : Vec Item) (alternatives : Vec Alternative) (last : Option (Vec Item)) → core_of (seen_statement (If word test body alternatives last))
     ≡ cond (choice_of ((core_of (seen_tree test.value), body_core body.items) ∷ map alternative_core alternatives.items) (otherwise_core last))
 at_if word test body alternatives last = search (rules, the_lemmas, body_items, alternatives_items, otherwise_held)
 
-pub at_unless : (word : Token) (test : Box Expression) (body : Vec Item) → core_of (seen_tree (Unless word test body)) ≡ choose (core_of (seen_tree test.value)) false_core (body_core body.items)
-at_unless word test body = search (rules, the_lemmas, body_items)
+pub at_guarded : (guard : Guard) (word : Token) (test : Box Expression) (body : Vec Item) → core_of (seen_statement (Guarded guard word test body))
+    ≡ guarded_core guard (core_of (seen_tree test.value)) (body_core body.items)
+at_guarded guard word test body = search (rules, the_lemmas, body_items)
 
-pub at_while : (word : Token) (test : Box Expression) (body : Vec Item) → core_of (seen_tree (While word test body)) ≡ core.loop (core_of (seen_tree test.value)) (body_core body.items)
-at_while word test body = search (rules, the_lemmas, body_items)
-
-pub at_until : (word : Token) (test : Box Expression) (body : Vec Item) → core_of (seen_tree (Until word test body)) ≡ core.loop (not_core (core_of (seen_tree test.value))) (body_core body.items)
-at_until word test body = search (rules, the_lemmas, body_items)
-
-pub at_case : (word : Token) (arms : Vec Arm) (last : Option (Vec Item)) → core_of (seen_tree (Case word arms last)) ≡ cond (choice_of (map case_core arms.items) (otherwise_core last))
+pub at_case : (word : Token) (arms : Vec Arm) (last : Option (Vec Item)) → core_of (seen_statement (Case word arms last)) ≡ cond (choice_of (map case_core arms.items) (otherwise_core last))
 at_case word arms last = search (rules, the_lemmas, cases_items, otherwise_held)
 
-pub at_select : (word : Token) (value : Box Expression) (test : Option (Box Expression)) (arms : Vec Arm) (last : Option (Vec Item)) → core_of (seen_tree (Select word value test arms last))
+pub at_select : (word : Token) (value : Box Expression) (test : Option (Box Expression)) (arms : Vec Arm) (last : Option (Vec Item)) → core_of (seen_statement (Select word value test arms last))
     ≡ select (core_of (seen_tree value.value)) (maybe_boxed test) (arms_of (map arm_core arms.items)) (maybe_body last)
 at_select word value test arms last = search (rules, the_lemmas, arms_items, selector_held, body_held)
 
-pub at_block : (word : Token) (exit : Option Token) (body : Vec Item) (found : Vec BlockClause) → core_of (seen_tree (Block word exit body found))
+pub at_block : (word : Token) (exit : Option Token) (body : Vec Item) (found : Vec BlockClause) → core_of (seen_statement (Block word exit body found))
     ≡ block exit (body_core body.items) (table.afterwards_of (block_clauses found.items)) (table.cleanup_of (block_clauses found.items)) (catches_of (table.exceptions_of (block_clauses found.items)))
-at_block word exit body found = search (rules, the_lemmas, body_items, clauses_items)
+at_block word exit body found = search (rules, the_lemmas, body_items, inner_clauses)
 
-pub at_for : (word : Token) (found : Vec ForClause) (stop : Option (Box Stop)) (body : Vec Item) (last : Option (Vec Item)) → core_of (seen_tree (For word found stop body last))
+pub at_for : (word : Token) (found : Vec ForClause) (stop : Option (Box Stop)) (body : Vec Item) (last : Option (Vec Item)) → core_of (seen_statement (For word found stop body last))
     ≡ for (clauses_of (map for_clause_core found.items)) (stop_core stop) (body_core body.items) (maybe_body last)
 at_for word found stop body last = search (rules, the_lemmas, body_items, for_items, stop_held, body_held)
 

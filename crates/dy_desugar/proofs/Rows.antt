@@ -3,7 +3,8 @@ use Rattle.std.proofs.Common.{◌≡◌, List, [], ◌∷◌, ◌++◌, map, fla
 use Rattle.std.specs.Prelude.{Bool, Option, Some, None, option_map}
 use Rattle.dy_tree.specs.declared.token.Token.{Token}
 use Rattle.dy_tree.specs.declared.expression.Argument.TheViews.{the_lemmas}
-use Rattle.dy_tree.specs.declared.expression.Expression.{Expression, Row_of-Argument, end_of-Argument, more_of-Argument, items-the_row-Argument, Row_of-Item, end_of-Item, more_of-Item, items-the_row-Item, Row_of-Alternative, end_of-Alternative, more_of-Alternative, items-the_row-Alternative, Row_of-Arm, end_of-Arm, more_of-Arm, items-the_row-Arm, Row_of-Expression, end_of-Expression, more_of-Expression, items-the_row-Expression, Row_of-BlockClause, end_of-BlockClause, more_of-BlockClause, items-the_row-BlockClause, Row_of-ForClause, end_of-ForClause, more_of-ForClause, items-the_row-ForClause, Held-Expression-If-4, Expression-If-4-None', Expression-If-4-Some', view-Expression-If-4, Held-Expression-Select-2, Expression-Select-2-None', Expression-Select-2-Some', view-Expression-Select-2, Held-Expression-For-2, Expression-For-2-None', Expression-For-2-Some', view-Expression-For-2}
+use Rattle.dy_tree.specs.declared.expression.Expression.{Expression, Row_of-Argument, end_of-Argument, more_of-Argument, items-the_row-Argument}
+use Rattle.dy_tree.specs.declared.expression.Statement.{Row_of-Item, end_of-Item, more_of-Item, items-the_row-Item, Row_of-Alternative, end_of-Alternative, more_of-Alternative, items-the_row-Alternative, Row_of-Arm, end_of-Arm, more_of-Arm, items-the_row-Arm, Row_of-Expression, end_of-Expression, more_of-Expression, items-the_row-Expression, Row_of-ForClause, end_of-ForClause, more_of-ForClause, items-the_row-ForClause, Held-Statement-If-4, Statement-If-4-None', Statement-If-4-Some', view-Statement-If-4, Held-Statement-Select-2, Statement-Select-2-None', Statement-Select-2-Some', view-Statement-Select-2, Held-Statement-For-2, Statement-For-2-None', Statement-For-2-Some', view-Statement-For-2}
 use Rattle.dy_tree.specs.declared.expression.ForClause.{Held-ForClause-From-2, ForClause-From-2-None', ForClause-From-2-Some', view-ForClause-From-2, Held-ForClause-From-3, ForClause-From-3-None', ForClause-From-3-Some', view-ForClause-From-3}
 use Rattle.dy_tree.specs.declared.expression.Item.{Row_of-LocalMethod, end_of-LocalMethod, more_of-LocalMethod, items-the_row-LocalMethod}
 use Rattle.dy_tree.specs.declared.expression.LocalMethod.{LocalMethod, LocalMethod', out-LocalMethod}
@@ -13,8 +14,7 @@ use Rattle.dy_term.specs.Types.{CoreKey}
 use Rattle.dy_term.specs.Drafts.{Core, CoreItem, CoreArm, CoreClause, CoreLambda}
 use Rattle.dy_rules.specs.SeenTypes.{seen_required, seen_results, seen_variable}
 use Rattle.dy_drafts.specs.Shapes.{required_of, results_of, key_of}
-use Rattle.dy_rules.specs.Trees.{BlockClauses, clause_and, block_clauses_of}
-use Rattle.dy_rules.specs.SeenForms.{seen_tree, seen_arguments, seen_body, seen_alternatives, seen_arms, seen_tests, seen_clauses, seen_clause, seen_for, seen_for_clause, seen_methods, seen_parameters, seen_maybe_keys, seen_key_row, seen_default, seen_limit, seen_otherwise, seen_test, seen_stop}
+use Rattle.dy_rules.specs.SeenForms.{seen_arguments, seen_body, seen_alternatives, seen_arms, seen_tests, seen_for, seen_methods, seen_parameters, seen_maybe_keys, seen_key_row, seen_default, seen_limit, seen_otherwise, seen_test, seen_stop}
 use Rattle.dy_desugar.specs.Table as table
 use Rattle.dy_desugar.specs.Lists.{tree_core, argument_terms, item_core, body_core, otherwise_core, maybe_body, maybe_tree, maybe_boxed, alternative_core, case_core, arm_core, default_core, key_default, key_core, keys_defaults, parameter_defaults, lambda_core, method_core, for_clause_core, bound_core, stop_core}
 
@@ -54,21 +54,17 @@ pub arms_items : {m : _} (row : Row_of-Arm m) → table.select_arms (seen_arms r
 arms_items end_of-Arm = refl
 arms_items (more_of-Arm shape tests others body rest) = arms_more shape tests others body rest (arms_items rest)
 
-pub clauses_items : {m : _} (row : Row_of-BlockClause m) → seen_clauses row ≡ block_clauses_of (map seen_clause (items-the_row-BlockClause m row))
-clauses_items end_of-BlockClause = refl
-clauses_items (more_of-BlockClause first rest) = ap (λ (others : BlockClauses). clause_and (seen_clause first) others) (clauses_items rest)
-
 pub for_items : {m : _} (row : Row_of-ForClause m) → table.for_clauses_of (seen_for row) ≡ map for_clause_core (items-the_row-ForClause m row)
 for_items end_of-ForClause = refl
 for_items (more_of-ForClause first rest) = ap (λ (others : List CoreClause). for_clause_core first ∷ others) (for_items rest)
 
-pub otherwise_held : (last : Held-Expression-If-4) → table.or_false (seen_otherwise last) ≡ otherwise_core (view-Expression-If-4 last)
-otherwise_held Expression-If-4-None' = refl
-otherwise_held (Expression-If-4-Some' shape body) = search (rules, the_lemmas, body_items)
+pub otherwise_held : (last : Held-Statement-If-4) → table.or_false (seen_otherwise last) ≡ otherwise_core (view-Statement-If-4 last)
+otherwise_held Statement-If-4-None' = refl
+otherwise_held (Statement-If-4-Some' shape body) = search (rules, the_lemmas, body_items)
 
-pub body_held : (last : Held-Expression-If-4) → table.maybe_body (seen_otherwise last) ≡ maybe_body (view-Expression-If-4 last)
-body_held Expression-If-4-None' = refl
-body_held (Expression-If-4-Some' shape body) = search (rules, the_lemmas, body_items)
+pub body_held : (last : Held-Statement-If-4) → table.maybe_body (seen_otherwise last) ≡ maybe_body (view-Statement-If-4 last)
+body_held Statement-If-4-None' = refl
+body_held (Statement-If-4-Some' shape body) = search (rules, the_lemmas, body_items)
 
 pub step_held : (step : Held-ForClause-From-3) → table.maybe_of (seen_default step) ≡ maybe_tree (view-ForClause-From-3 step)
 step_held ForClause-From-3-None' = refl
@@ -82,13 +78,13 @@ pub bound_held : (limit : Held-ForClause-From-2) → table.bound_of (seen_limit 
 bound_held ForClause-From-2-None' = refl
 bound_held (ForClause-From-2-Some' word bound) = refl
 
-pub selector_held : (test : Held-Expression-Select-2) → table.maybe_of (seen_test test) ≡ maybe_boxed (view-Expression-Select-2 test)
-selector_held Expression-Select-2-None' = refl
-selector_held (Expression-Select-2-Some' p tree) = refl
+pub selector_held : (test : Held-Statement-Select-2) → table.maybe_of (seen_test test) ≡ maybe_boxed (view-Statement-Select-2 test)
+selector_held Statement-Select-2-None' = refl
+selector_held (Statement-Select-2-Some' p tree) = refl
 
-pub stop_held : (stop : Held-Expression-For-2) → table.stop_of (seen_stop stop) ≡ stop_core (view-Expression-For-2 stop)
-stop_held Expression-For-2-None' = refl
-stop_held (Expression-For-2-Some' p symbol test) = refl
+pub stop_held : (stop : Held-Statement-For-2) → table.stop_of (seen_stop stop) ≡ stop_core (view-Statement-For-2 stop)
+stop_held Statement-For-2-None' = refl
+stop_held (Statement-For-2-Some' p symbol test) = refl
 
 pub keys_items : {m : _} (row : Row_of-Key m) → table.key_rows (seen_key_row row) ≡ map key_core (items-the_row-Key m row)
 keys_items end_of-Key = refl

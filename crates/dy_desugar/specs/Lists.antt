@@ -15,11 +15,12 @@ use Rattle.dy_tree.specs.declared.expression.Key.{Key}
 use Rattle.dy_tree.specs.declared.expression.Keys.{Keys, out-Keys}
 use Rattle.dy_tree.specs.declared.expression.Parameters.{Parameters, out-Parameters}
 use Rattle.dy_tree.specs.declared.expression.LocalMethod.{LocalMethod, out-LocalMethod}
+use Rattle.dy_tree.specs.Spelling.{is_spelled}
 use Rattle.dy_term.specs.Types.{CoreKey}
 use Rattle.dy_term.specs.Drafts.{Core, CoreItem, CoreArm, CoreLambda, CoreClause, CoreLimit, no_limit, a_limit, CoreTest, no_test, a_test, CoreCatch, MaybeCore, nothing, just}
 use Rattle.dy_rules.specs.SeenTypes.{seen_variable}
 use Rattle.dy_drafts.specs.Parts.{bodied, false_core, first_or_false, limit_of}
-use Rattle.dy_drafts.specs.Shapes.{reads, key_of, type_of}
+use Rattle.dy_drafts.specs.Shapes.{key_of, type_of}
 use Rattle.dy_rules.specs.Trees as source
 use Rattle.dy_rules.specs.Trees.{BlockClauses, block_clauses_of, afterwards_clause, cleanup_clause, exception_clause}
 use Rattle.dy_rules.specs.SeenForms.{seen_tree, seen_argument, seen_item, seen_clause, seen_for_clause, seen_parameters}
@@ -37,14 +38,18 @@ item_core item = table.item_of (seen_item item)
 abbrev pub body_core : List Item → Core
 body_core items = bodied (map item_core items)
 
--- a body that may be left out, and is then `#f` or nothing
-abbrev pub otherwise_core : Option (Vec Item) → Core
-otherwise_core None = false_core
-otherwise_core (Some items) = body_core items.items
+-- what may be left out, and is then `#f`
+abbrev pub given_or_false : MaybeCore → Core
+given_or_false nothing = false_core
+given_or_false (just term) = term
 
+-- a body that may be left out, and is then nothing or `#f`
 abbrev pub maybe_body : Option (Vec Item) → MaybeCore
 maybe_body None = nothing
 maybe_body (Some items) = just (body_core items.items)
+
+abbrev pub otherwise_core : Option (Vec Item) → Core
+otherwise_core last = given_or_false (maybe_body last)
 
 -- an expression that may be left out
 abbrev pub maybe_tree : Option Expression → MaybeCore
@@ -67,8 +72,7 @@ arm_core arm = record { values = map tree_core arm.tests.items; body = body_core
 
 -- the default of a keyword parameter
 abbrev pub default_core : Option Expression → Core
-default_core None = false_core
-default_core (Some tree) = tree_core tree
+default_core default = given_or_false (maybe_tree default)
 
 abbrev pub key_default : Key → Core
 key_default key = default_core key.default
@@ -127,4 +131,4 @@ bound_core (Some limit) = a_limit (limit_of limit.word) (tree_core limit.bound)
 
 abbrev pub stop_core : Option (Box Stop) → CoreTest
 stop_core None = no_test
-stop_core (Some stop) = a_test (reads (codes "until") stop.value.keyword) (tree_core stop.value.test)
+stop_core (Some stop) = a_test (is_spelled (codes "until") stop.value.keyword) (tree_core stop.value.test)

@@ -3,14 +3,18 @@ use Rattle.std.specs.Prelude.{ℕ, Bool, true, false, List, [], ◌∷◌, ◌++
 use Rattle.dy_tree.specs.declared.token.Token.{Token}
 use Rattle.dy_tree.specs.declared.types.LiteralForm.{LiteralForm}
 use Rattle.dy_tree.specs.declared.types.LiteralForm.TheVariants as forms
-use Rattle.dy_rules.specs.Operators.{Precedence, logical, unless, while, until}
+use Rattle.dy_tree.specs.declared.roles.Precedence.{Precedence}
+use Rattle.dy_tree.specs.declared.roles.Precedence.TheVariants as precedences
+use Rattle.dy_tree.specs.declared.brackets.Guard.{Guard}
+use Rattle.dy_tree.specs.declared.brackets.Guard.TheVariants as guards
+use Rattle.dy_tree.specs.Spelling.{is_spelled}
 use Rattle.dy_rules.specs.Trees as source
 use Rattle.dy_rules.specs.Trees.{Tree, Arguments, Argument, Body, ItemTree, Alternatives, Otherwise, Arms, Tests, MaybeTree, MaybeStop, MaybeLimit, MaybeKeys, Keys, Parameters, LocalMethods, BlockClauses, ForClauses, ForClause}
-use Rattle.dy_term.specs.Literals as constants
+use Rattle.dy_term.specs.declared.literal.Literal as constants
 use Rattle.dy_term.specs.Types.{CoreType, integer, CoreKey, CoreParams, CoreResults}
 use Rattle.dy_term.specs.Drafts.{Core, literal, name, set, no_place, cond, and, or, select, loop, method, block, MaybeCore, nothing, just, CoreItem, run, let_values, let_methods, handler, CoreLambda, lambda, CoreClause, then_clause, in_clause, from_clause, CoreLimit, no_limit, a_limit, CoreTest, no_test, a_test, CoreArm, CoreCatch, cores_of, choice_of, arms_of, methods_of, clauses_of, catches_of}
 use Rattle.dy_term.specs.Drafts as core
-use Rattle.dy_drafts.specs.Shapes.{reads, name_at, literal_of, list_of, constants_of, tail_of, type_of, declared_or, declared_of, locals_of, rest_of, required_of, results_of, key_of}
+use Rattle.dy_drafts.specs.Shapes.{name_at, literal_of, list_of, constants_of, tail_of, type_of, declared_or, declared_of, locals_of, rest_of, required_of, results_of, key_of}
 use Rattle.dy_drafts.specs.Parts.{false_core, call_named, choose, not_core, unary_name, bodied, setting, setter_at, limit_of, first_or_false}
 
 abbrev pub literal_token : LiteralForm → Token
@@ -71,8 +75,14 @@ lambda_from row defaults inner = lambda (params_of row) (cores_of defaults) inne
 
 -- Binary operators are calls of names, but for `&` and `|`, which evaluate their right side where it counts.
 abbrev pub operation_core : Precedence → Token → Core → Core → Core
-operation_core logical operator left right = if reads (codes "&") operator then and left right else or left right
+operation_core precedences.Logical operator left right = if is_spelled (codes "&") operator then and left right else or left right
 operation_core _ operator left right = call_named operator (left ∷ right ∷ [])
+
+-- `unless`, `while` and `until`, from the cores of the test and of the body
+abbrev pub guarded_core : Guard → Core → Core → Core
+guarded_core guards.Unless test inner = choose test false_core inner
+guarded_core guards.While test inner = loop test inner
+guarded_core guards.Until test inner = loop (not_core test) inner
 
 abbrev mutual
   pub core_of : Tree → Core
@@ -86,14 +96,12 @@ abbrev mutual
   core_of (source.literal value) = literal (literal_of value)
   core_of (source.name token) = name token
   core_of (source.list opener items last) = literal (list_of (constants_of items) (tail_of last))
-  core_of (source.vector opener items) = literal (constants.vector (constants_of items))
+  core_of (source.vector opener items) = literal (constants.Vector (constants_of items))
   -- statements
   core_of (source.begin_tree word body) = bodied (items_in body)
   core_of (source.method_tree word row body) = method (lambda_from row (defaults_of row) (bodied (items_in body)))
   core_of (source.if_tree word test body alternatives other) = cond (choice_of ((core_of test, bodied (items_in body)) ∷ alternatives_of alternatives) (or_false other))
-  core_of (source.guarded unless word test body) = choose (core_of test) false_core (bodied (items_in body))
-  core_of (source.guarded while word test body) = loop (core_of test) (bodied (items_in body))
-  core_of (source.guarded until word test body) = loop (not_core (core_of test)) (bodied (items_in body))
+  core_of (source.guarded guard word test body) = guarded_core guard (core_of test) (bodied (items_in body))
   core_of (source.case_tree word arms other) = cond (choice_of (cases_of arms) (or_false other))
   core_of (source.select_tree word value test arms other) = select (core_of value) (maybe_of test) (arms_of (select_arms arms)) (maybe_body other)
   core_of (source.block_tree word exit body clauses) = block exit (bodied (items_in body)) (afterwards_of clauses) (cleanup_of clauses) (catches_of (exceptions_of clauses))
@@ -212,7 +220,7 @@ abbrev mutual
   -- `until:` ends the loop where its test is true
   pub stop_of : MaybeStop → CoreTest
   stop_of source.no_stop = no_test
-  stop_of (source.a_stop symbol test) = a_test (reads (codes "until") symbol) (core_of test)
+  stop_of (source.a_stop symbol test) = a_test (is_spelled (codes "until") symbol) (core_of test)
 
 abbrev pub body_of : Body → Core
 body_of body = bodied (items_in body)

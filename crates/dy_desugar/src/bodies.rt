@@ -2,11 +2,11 @@
 
 ghost use Rattle.std.specs.Prelude.{◌≡◌, map, IfOk};
 ghost use Rattle.dy_term.specs.Drafts.{seen_term, seen_item, seen_option};
-ghost use Rattle.dy_desugar.specs.Lists.{item_core, body_core, maybe_body};
+ghost use Rattle.dy_desugar.specs.Lists.{item_core, body_core, maybe_body, given_or_false};
 
 use crate::expressions::term_of;
 use crate::methods::methods_of;
-use dy_drafts::{locals_of, rest_of, type_of};
+use dy_drafts::{false_draft, locals_of, rest_of, type_of};
 use dy_term::{DraftItem, DraftTerm, body_draft, local_draft};
 use dy_tree::Item;
 use std::alloc::{AllocError, Global};
@@ -34,6 +34,16 @@ pub(crate) fn maybe_body_of(
     match body {
         None => Ok(None),
         Some(body) => Ok(Some(body_of(alloc, body)?)),
+    }
+}
+
+/// The term of what may be left out, and `#f` where it is.
+pub(crate) fn or_false(term: Option<DraftTerm>) -> DraftTerm
+    ensures { seen_term result ≡ given_or_false (seen_option term) }
+{
+    match term {
+        None => false_draft(),
+        Some(term) => term,
     }
 }
 

@@ -1,74 +1,19 @@
-//! Statements that choose among bodies (DRM 7, "Conditionals").
+//! What statements choose among (DRM 7, "Conditionals").
 
 ghost use Rattle.std.specs.Prelude.{◌≡◌, ◌∷◌, map, IfOk};
 ghost use Rattle.dy_term.specs.Drafts.{seen_term, seen_pair, seen_arm, seen_option};
-ghost use Rattle.dy_rules.specs.SeenForms.{seen_tree};
-ghost use Rattle.dy_desugar.specs.Groups as groups;
-ghost use Rattle.dy_desugar.specs.Table as table;
-ghost use Rattle.dy_desugar.specs.Lists.{tree_core, alternative_core, otherwise_core, case_core, arm_core, maybe_boxed};
+ghost use Rattle.dy_desugar.specs.Lists.{tree_core, alternative_core, case_core, arm_core, maybe_boxed};
 
-use crate::bodies::{body_of, maybe_body_of};
+use crate::bodies::body_of;
 use crate::expressions::term_of;
-use crate::group::Group;
-use dy_drafts::{false_draft, first_or_false, unless_draft};
-use dy_term::{DraftArm, DraftTerm, cond_draft, select_draft};
-use dy_tree::{Alternative, Arm, Expression, Item};
+use dy_drafts::first_or_false;
+use dy_term::{DraftArm, DraftTerm};
+use dy_tree::{Alternative, Arm, Expression};
 use std::alloc::{AllocError, Global};
-
-/// The term of a statement that chooses among bodies.
-#[cycle(terms)]
-pub(crate) fn choice_of(alloc: Global, expression: &Expression) -> Result<DraftTerm, AllocError>
-    requires { groups.group_of (seen_tree expression.now) ≡ Group.Choice }
-    ensures { IfOk result (λ term. seen_term term ≡ table.core_of (seen_tree expression.now)) }
-{
-    match expression {
-        Expression::If {
-            test,
-            body,
-            alternatives,
-            otherwise,
-            ..
-        } => {
-            let test = term_of(alloc, test)?;
-            let body = body_of(alloc, body)?;
-            let branches = branches_of(alloc, alternatives, test, body)?;
-            let last = or_false(alloc, otherwise)?;
-            cond_draft(alloc, branches, last)
-        }
-        Expression::Unless { test, body, .. } => {
-            let test = term_of(alloc, test)?;
-            let body = body_of(alloc, body)?;
-            unless_draft(alloc, test, body)
-        }
-        Expression::Case {
-            arms,
-            otherwise,
-            ..
-        } => {
-            let branches = cases_of(alloc, arms)?;
-            let last = or_false(alloc, otherwise)?;
-            cond_draft(alloc, branches, last)
-        }
-        Expression::Select {
-            value,
-            test,
-            arms,
-            otherwise,
-            ..
-        } => {
-            let value = term_of(alloc, value)?;
-            let test = selector_of(alloc, test)?;
-            let arms = arms_of(alloc, arms)?;
-            let last = maybe_body_of(alloc, otherwise)?;
-            select_draft(alloc, value, test, arms, last)
-        }
-        _ => unreachable!(),
-    }
-}
 
 /// The tests of an `if`, each with its body.
 #[cycle(terms)]
-fn branches_of(
+pub(crate) fn branches_of(
     alloc: Global,
     alternatives: &Vec<Alternative>,
     test: DraftTerm,
@@ -85,20 +30,12 @@ fn branches_of(
     Ok(branches)
 }
 
-/// The term of a body, and `#f` where none is written.
-#[cycle(terms)]
-fn or_false(alloc: Global, otherwise: &Option<Vec<Item>>) -> Result<DraftTerm, AllocError>
-    ensures { IfOk result (λ term. seen_term term ≡ otherwise_core otherwise.now) }
-{
-    match otherwise {
-        None => Ok(false_draft()),
-        Some(body) => body_of(alloc, body),
-    }
-}
-
 /// The arms of a `case`, each a test with its body.
 #[cycle(terms)]
-fn cases_of(alloc: Global, arms: &Vec<Arm>) -> Result<Vec<(DraftTerm, DraftTerm)>, AllocError>
+pub(crate) fn cases_of(
+    alloc: Global,
+    arms: &Vec<Arm>,
+) -> Result<Vec<(DraftTerm, DraftTerm)>, AllocError>
     ensures { IfOk result (λ cases. map seen_pair cases.items ≡ map case_core arms.now.items) }
 {
     let mut cases = Vec::new(alloc);
@@ -124,7 +61,7 @@ fn tests_of(alloc: Global, tests: &Vec<Expression>) -> Result<Vec<DraftTerm>, Al
 
 /// The arms of a `select`.
 #[cycle(terms)]
-fn arms_of(alloc: Global, arms: &Vec<Arm>) -> Result<Vec<DraftArm>, AllocError>
+pub(crate) fn arms_of(alloc: Global, arms: &Vec<Arm>) -> Result<Vec<DraftArm>, AllocError>
     ensures { IfOk result (λ found. map seen_arm found.items ≡ map arm_core arms.now.items) }
 {
     let mut found = Vec::new(alloc);
@@ -138,7 +75,7 @@ fn arms_of(alloc: Global, arms: &Vec<Arm>) -> Result<Vec<DraftArm>, AllocError>
 
 /// The term of what a `select` tests by, if it is written.
 #[cycle(terms)]
-fn selector_of(
+pub(crate) fn selector_of(
     alloc: Global,
     test: &Option<Box<Expression>>,
 ) -> Result<Option<DraftTerm>, AllocError>

@@ -1,24 +1,20 @@
 //! Expressions as terms of the core (DRM 4).
 
 ghost use Rattle.std.specs.Prelude.{◌≡◌, map, flat_map, IfOk};
-ghost use Rattle.dy_term.specs.Drafts.{no_place, seen_term};
+ghost use Rattle.dy_term.specs.Drafts.{no_place, seen_term, seen_option};
 ghost use Rattle.dy_drafts.specs.Parts.{setting, setter_at};
 ghost use Rattle.dy_rules.specs.SeenForms.{seen_tree};
-ghost use Rattle.dy_desugar.specs.Groups as groups;
 ghost use Rattle.dy_desugar.specs.Table as table;
-ghost use Rattle.dy_desugar.specs.Lists.{argument_terms};
+ghost use Rattle.dy_desugar.specs.Lists.{argument_terms, maybe_tree};
 
-use crate::choices::choice_of;
 use crate::first::{first_token, name_in};
-use crate::group::{Group, group_of};
-use crate::scopes::scope_of;
-use crate::turns::loop_of;
+use crate::statements::statement_of;
 use dy_drafts::{
     element, keyword_of, list_of, literal_of, logical, member, operation, set_element, set_member,
     setter_at, setting, unary, vector_of,
 };
 use dy_term::{DraftTerm, call_draft, no_place_draft, set_draft};
-use dy_tree::{Argument, Expression, Token};
+use dy_tree::{Argument, Expression, Precedence, Token};
 use std::alloc::{AllocError, Global};
 
 /// The term of an expression.
@@ -26,74 +22,22 @@ use std::alloc::{AllocError, Global};
 pub fn term_of(alloc: Global, expression: &Expression) -> Result<DraftTerm, AllocError>
     ensures { IfOk result (λ term. seen_term term ≡ table.core_of (seen_tree expression.now)) }
 {
-    match group_of(expression) {
-        Group::Operator => operator_of(alloc, expression),
-        Group::Operand => operand_of(alloc, expression),
-        Group::Choice => choice_of(alloc, expression),
-        Group::Loop => loop_of(alloc, expression),
-        Group::Scope => scope_of(alloc, expression),
-    }
-}
-
-/// The term of an operator with its operands.
-#[cycle(terms)]
-fn operator_of(alloc: Global, expression: &Expression) -> Result<DraftTerm, AllocError>
-    requires { groups.group_of (seen_tree expression.now) ≡ Group.Operator }
-    ensures { IfOk result (λ term. seen_term term ≡ table.core_of (seen_tree expression.now)) }
-{
     match expression {
         Expression::Assign { place, value } => {
             let value = term_of(alloc, value)?;
             assignment_of(alloc, place, value)
         }
-        Expression::Logical {
+        Expression::Operation {
+            precedence,
             left,
             operator,
             right,
         } => {
             let left = term_of(alloc, left)?;
             let right = term_of(alloc, right)?;
-            logical(alloc, left, operator, right)
+            operation_of(alloc, *precedence, left, operator, right)
         }
-        Expression::Comparison {
-            left,
-            operator,
-            right,
-        }
-        | Expression::Sum {
-            left,
-            operator,
-            right,
-        }
-        | Expression::Product {
-            left,
-            operator,
-            right,
-        }
-        | Expression::Power {
-            left,
-            operator,
-            right,
-        } => {
-            let left = term_of(alloc, left)?;
-            let right = term_of(alloc, right)?;
-            operation(alloc, left, operator, right)
-        }
-        Expression::Unary { operator, operand } => {
-            let operand = term_of(alloc, operand)?;
-            unary(alloc, operator, operand)
-        }
-        _ => unreachable!(),
-    }
-}
-
-/// The term of what stands between operators.
-#[cycle(terms)]
-fn operand_of(alloc: Global, expression: &Expression) -> Result<DraftTerm, AllocError>
-    requires { groups.group_of (seen_tree expression.now) ≡ Group.Operand }
-    ensures { IfOk result (λ term. seen_term term ≡ table.core_of (seen_tree expression.now)) }
-{
-    match expression {
+        Expression::Unary { operator, operand } => unary(alloc, operator, term_of(alloc, operand)?),
         Expression::Call {
             function,
             arguments,
@@ -111,15 +55,43 @@ fn operand_of(alloc: Global, expression: &Expression) -> Result<DraftTerm, Alloc
             let index = term_of(alloc, index)?;
             element(alloc, object, opener, index)
         }
-        Expression::Member { object, name } => {
-            let object = term_of(alloc, object)?;
-            member(alloc, object, name)
-        }
+        Expression::Member { object, name } => member(alloc, term_of(alloc, object)?, name),
         Expression::Literal(form) => Ok(DraftTerm::Lit(literal_of(alloc, form)?)),
         Expression::Name(token) => Ok(DraftTerm::Name(token.copy()?)),
         Expression::List { items, tail, .. } => Ok(DraftTerm::Lit(list_of(alloc, items, tail)?)),
         Expression::Vector { items, .. } => Ok(DraftTerm::Lit(vector_of(alloc, items)?)),
-        _ => unreachable!(),
+        Expression::Statement(statement) => statement_of(alloc, statement),
+    }
+}
+
+/// The term of an expression that may be left out.
+#[cycle(terms)]
+pub(crate) fn maybe_term_of(
+    alloc: Global,
+    expression: &Option<Expression>,
+) -> Result<Option<DraftTerm>, AllocError>
+    ensures { IfOk result (λ term. seen_option term ≡ maybe_tree expression.now) }
+{
+    match expression {
+        None => Ok(None),
+        Some(expression) => Ok(Some(term_of(alloc, expression)?)),
+    }
+}
+
+/// An operation of two operands, from their terms.
+fn operation_of(
+    alloc: Global,
+    precedence: Precedence,
+    left: DraftTerm,
+    operator: &Token,
+    right: DraftTerm,
+) -> Result<DraftTerm, AllocError>
+    ensures { IfOk result (λ term. seen_term term ≡ table.operation_core precedence operator.now (seen_term left) (seen_term right)) }
+{
+    match precedence {
+        Precedence::Logical => logical(alloc, left, operator, right),
+        Precedence::Comparison | Precedence::Sum => operation(alloc, left, operator, right),
+        Precedence::Product | Precedence::Power => operation(alloc, left, operator, right),
     }
 }
 
@@ -151,24 +123,25 @@ fn assignment_of(
             function,
             arguments,
         } => match name_in(function) {
-            Some(name) => set_call(alloc, name, arguments, value),
+            Some(name) => {
+                let operands = arguments_of(alloc, arguments)?;
+                set_call(alloc, name, operands, value)
+            }
             None => no_place_of(alloc, place, value),
         },
         _ => no_place_of(alloc, place, value),
     }
 }
 
-/// The term of an assignment to a call of a name.
-#[cycle(terms)]
+/// An assignment to a call of a name, from the terms of its arguments.
 fn set_call(
     alloc: Global,
     name: &Token,
-    arguments: &Vec<Argument>,
+    operands: Vec<DraftTerm>,
     value: DraftTerm,
 ) -> Result<DraftTerm, AllocError>
-    ensures { IfOk result (λ term. seen_term term ≡ setting (setter_at name.now) (flat_map argument_terms arguments.now.items) (seen_term value)) }
+    ensures { IfOk result (λ term. seen_term term ≡ setting (setter_at name.now) (map seen_term operands.items) (seen_term value)) }
 {
-    let operands = arguments_of(alloc, arguments)?;
     let setter = setter_at(alloc, name)?;
     setting(alloc, setter, operands, value)
 }

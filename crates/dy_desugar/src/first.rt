@@ -23,17 +23,14 @@ fn literal_token(form: &LiteralForm) -> &Token
 }
 
 /// The first token of an expression. Brackets round it are no part of the tree.
+#[tactic(auto, using(crate::proofs::Places::statement_first))]
 pub(crate) fn first_token(expression: &Expression) -> &Token
     ensures { result.now ≡ first_token (seen_tree expression.now) }
 {
     match expression {
-        Expression::Assign { place: left, .. }
-        | Expression::Logical { left, .. }
-        | Expression::Comparison { left, .. }
-        | Expression::Sum { left, .. }
-        | Expression::Product { left, .. }
-        | Expression::Power { left, .. } => first_token(left),
-        Expression::Call {
+        Expression::Assign { place: inner, .. }
+        | Expression::Operation { left: inner, .. }
+        | Expression::Call {
             function: inner,
             ..
         }
@@ -46,17 +43,8 @@ pub(crate) fn first_token(expression: &Expression) -> &Token
         }
         | Expression::Name(token)
         | Expression::List { opener: token, .. }
-        | Expression::Vector { opener: token, .. }
-        | Expression::Begin { word: token, .. }
-        | Expression::Method { word: token, .. }
-        | Expression::If { word: token, .. }
-        | Expression::Unless { word: token, .. }
-        | Expression::While { word: token, .. }
-        | Expression::Until { word: token, .. }
-        | Expression::Case { word: token, .. }
-        | Expression::Select { word: token, .. }
-        | Expression::Block { word: token, .. }
-        | Expression::For { word: token, .. } => token,
+        | Expression::Vector { opener: token, .. } => token,
+        Expression::Statement(statement) => statement.word(),
     }
 }
 

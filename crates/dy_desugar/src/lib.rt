@@ -5,9 +5,9 @@ mod bodies;
 mod choices;
 mod expressions;
 mod first;
-mod group;
 mod methods;
 mod scopes;
+mod statements;
 mod turns;
 mod walks;
 

@@ -7,14 +7,14 @@ ghost use Rattle.dy_term.specs.Drafts.{seen_term, seen_method, seen_lambda};
 ghost use Rattle.dy_rules.specs.SeenTypes.{seen_required};
 ghost use Rattle.dy_drafts.specs.Shapes as shapes;
 ghost use Rattle.dy_rules.specs.SeenForms.{seen_parameters};
-ghost use Rattle.dy_desugar.specs.Lists.{method_core, parameter_defaults, key_default, key_core, keys_core, keys_all, default_core};
+ghost use Rattle.dy_desugar.specs.Lists.{method_core, parameter_defaults, key_default, key_core, keys_core, keys_all};
 ghost use Rattle.dy_desugar.specs.Table as table;
 
-use crate::bodies::body_of;
-use crate::expressions::term_of;
-use dy_drafts::{copy_maybe, false_draft, key_of, required_of, results_of};
+use crate::bodies::{body_of, or_false};
+use crate::expressions::maybe_term_of;
+use dy_drafts::{copy_maybe, key_of, required_of, results_of};
 use dy_term::{DraftKey, DraftLambda, DraftParams, DraftResults, DraftTerm, DraftType};
-use dy_tree::{Expression, Key, Keys, LocalMethod, Parameters, Required, Token};
+use dy_tree::{Key, Keys, LocalMethod, Parameters, Required, Token};
 use std::alloc::{AllocError, Global};
 
 /// Local methods with their names.
@@ -55,27 +55,17 @@ pub fn defaults_of(alloc: Global, parameters: &Parameters) -> Result<Vec<DraftTe
     }
 }
 
-/// The defaults of keyword parameters.
+/// The defaults of keyword parameters, which are `#f` where none is written.
 #[cycle(terms)]
 fn keys_defaults(alloc: Global, keys: &Keys) -> Result<Vec<DraftTerm>, AllocError>
     ensures { IfOk result (λ defaults. map seen_term defaults.items ≡ map key_default (out-Keys keys.now).keys.items) }
 {
     let mut defaults = Vec::new(alloc);
     for key in &keys.keys {
-        defaults.push(default_of(alloc, &key.default)?)?;
+        let default = maybe_term_of(alloc, &key.default)?;
+        defaults.push(or_false(default))?;
     }
     Ok(defaults)
-}
-
-/// The default of a keyword parameter, which is `#f` where none is written.
-#[cycle(terms)]
-fn default_of(alloc: Global, default: &Option<Expression>) -> Result<DraftTerm, AllocError>
-    ensures { IfOk result (λ term. seen_term term ≡ default_core default.now) }
-{
-    match default {
-        None => Ok(false_draft()),
-        Some(value) => term_of(alloc, value),
-    }
 }
 
 /// Required parameters.

@@ -1,56 +1,19 @@
-//! Statements that are bodies of their own (DRM 7, "begin", "block", "method").
+//! A `block` and its clauses (DRM 7, "block").
 
 ghost use Rattle.std.specs.Prelude.{◌≡◌, map, option_map, IfOk};
 ghost use Rattle.dy_term.specs.Drafts.{block, catches_of, seen_term, seen_option, seen_catch};
-ghost use Rattle.dy_rules.specs.SeenForms.{seen_tree, seen_clause};
-ghost use Rattle.dy_desugar.specs.Groups as groups;
+ghost use Rattle.dy_rules.specs.SeenForms.{seen_clause};
 ghost use Rattle.dy_desugar.specs.Lists.{block_clauses, own_afterwards, own_cleanup, own_exception};
 ghost use Rattle.dy_desugar.specs.Table as table;
 
 use crate::bodies::body_of;
-use crate::group::Group;
-use crate::methods::{defaults_of, lambda_from};
 use dy_drafts::{copy_maybe, type_of};
-use dy_term::{DraftBlockClause, DraftTerm, block_draft, method_draft};
-use dy_tree::{BlockClause, Expression, Token};
+use dy_term::{DraftBlockClause, DraftTerm, block_draft};
+use dy_tree::{BlockClause, Token};
 use std::alloc::{AllocError, Global};
 
-/// The term of a statement that is a body of its own.
-#[cycle(terms)]
-pub(crate) fn scope_of(alloc: Global, expression: &Expression) -> Result<DraftTerm, AllocError>
-    requires { groups.group_of (seen_tree expression.now) ≡ Group.Scope }
-    ensures { IfOk result (λ term. seen_term term ≡ table.core_of (seen_tree expression.now)) }
-{
-    match expression {
-        Expression::Begin { body, .. } => body_of(alloc, body),
-        Expression::Method {
-            parameters,
-            body,
-            ..
-        } => {
-            let defaults = defaults_of(alloc, parameters)?;
-            let body = body_of(alloc, body)?;
-            let lambda = lambda_from(alloc, parameters, defaults, body)?;
-            method_draft(alloc, lambda)
-        }
-        Expression::Block {
-            exit,
-            body,
-            clauses,
-            ..
-        } => {
-            let body = body_of(alloc, body)?;
-            let afterwards = afterwards_of(alloc, clauses)?;
-            let cleanup = cleanup_of(alloc, clauses)?;
-            let catches = exceptions_of(alloc, clauses)?;
-            block_from(alloc, exit, body, afterwards, cleanup, catches)
-        }
-        _ => unreachable!(),
-    }
-}
-
 /// A `block`, made from its parts.
-fn block_from(
+pub(crate) fn block_from(
     alloc: Global,
     exit: &Option<Token>,
     body: DraftTerm,
@@ -66,7 +29,10 @@ fn block_from(
 
 /// What runs after a normal end of a block's body.
 #[cycle(terms)]
-fn afterwards_of(alloc: Global, clauses: &Vec<BlockClause>) -> Result<Option<DraftTerm>, AllocError>
+pub(crate) fn afterwards_of(
+    alloc: Global,
+    clauses: &Vec<BlockClause>,
+) -> Result<Option<DraftTerm>, AllocError>
     ensures { IfOk result (λ term. seen_option term ≡ table.afterwards_of (block_clauses clauses.now.items)) }
 {
     for clause in clauses {
@@ -91,7 +57,10 @@ fn afterwards_in(alloc: Global, clause: &BlockClause) -> Result<Option<DraftTerm
 
 /// What runs on every end of a block.
 #[cycle(terms)]
-fn cleanup_of(alloc: Global, clauses: &Vec<BlockClause>) -> Result<Option<DraftTerm>, AllocError>
+pub(crate) fn cleanup_of(
+    alloc: Global,
+    clauses: &Vec<BlockClause>,
+) -> Result<Option<DraftTerm>, AllocError>
     ensures { IfOk result (λ term. seen_option term ≡ table.cleanup_of (block_clauses clauses.now.items)) }
 {
     for clause in clauses {
@@ -116,7 +85,7 @@ fn cleanup_in(alloc: Global, clause: &BlockClause) -> Result<Option<DraftTerm>, 
 
 /// The `exception` clauses of a block.
 #[cycle(terms)]
-fn exceptions_of(
+pub(crate) fn exceptions_of(
     alloc: Global,
     clauses: &Vec<BlockClause>,
 ) -> Result<Vec<DraftBlockClause>, AllocError>

@@ -13,31 +13,31 @@ use Rattle.dy_tree.specs.declared.types.TypeForm.{TypeForm, Row_of-TypeForm, end
 use Rattle.dy_tree.specs.declared.types.TypeForm.TheViews.{the_lemmas as type_lemmas}
 use Rattle.dy_tree.specs.declared.types.TypeForm.TheVariants as types
 use Rattle.dy_term.specs.declared.literal.Literal.{Literal}
-use Rattle.dy_term.specs.Literals as core
-use Rattle.dy_term.specs.Literals.{seen_literal}
+use Rattle.dy_term.specs.declared.literal.Literal as core
 use Rattle.dy_term.specs.Types.{CoreTypes, type_and, union, types_of}
 use Rattle.dy_rules.specs.ConstantTrees as source
 use Rattle.dy_rules.specs.SeenTypes.{seen_constant, seen_constants, seen_tail, seen_type, seen_types}
 use Rattle.dy_drafts.specs.Shapes as shapes
 use Rattle.dy_drafts.specs.Shapes.{constant_of, list_of, type_of}
+use Rattle.dy_drafts.specs.Literals.{literal_in, literals_in, last_in}
 
-constants_items : {m : _} (row : Row_of-ConstantForm m) → shapes.constants_of (seen_constants row) ≡ core.constants_of (map (λ form. constant_of (seen_constant form)) (items-the_row-ConstantForm m row))
+constants_items : {m : _} (row : Row_of-ConstantForm m) → shapes.constants_of (seen_constants row) ≡ map literal_in (items-the_row-ConstantForm m row)
 constants_items end_of-ConstantForm = refl
-constants_items (more_of-ConstantForm first rest) = ap (λ (others : core.Constants). core.constant_and (constant_of (seen_constant first)) others) (constants_items rest)
+constants_items (more_of-ConstantForm first rest) = ap (λ (others : List Literal). constant_of (seen_constant first) ∷ others) (constants_items rest)
 
-pub constants_listed : (forms : List ConstantForm) → shapes.constants_of (source.constants_of (map seen_constant forms)) ≡ core.constants_of (map (λ form. constant_of (seen_constant form)) forms)
+pub constants_listed : (forms : List ConstantForm) → literals_in forms ≡ map literal_in forms
 constants_listed [] = refl
-constants_listed (form ∷ forms) = ap (λ (others : core.Constants). core.constant_and (constant_of (seen_constant form)) others) (constants_listed forms)
+constants_listed (form ∷ forms) = ap (λ (others : List Literal). literal_in form ∷ others) (constants_listed forms)
 
-tail_held : (held : Held-ConstantForm-List-2) → seen_tail held ≡ source.tail_of (option_map (λ form. seen_constant form.value) (view-ConstantForm-List-2 held))
+tail_held : (held : Held-ConstantForm-List-2) → seen_tail held ≡ source.tail_of (option_map seen_constant (option_map (λ form. form.value) (view-ConstantForm-List-2 held)))
 tail_held NoTail' = refl
 tail_held (SomeTail' p value) = refl
 
-pub at_list : (opener : Token) (items : Vec ConstantForm Global) (last : Option (Box ConstantForm Global)) → constant_of (seen_constant (constants.List opener items last))
-    ≡ list_of (core.constants_of (map (λ form. constant_of (seen_constant form)) items.items)) (shapes.tail_of (source.tail_of (option_map (λ form. seen_constant form.value) last)))
+pub at_list : (opener : Token) (items : Vec ConstantForm Global) (last : Option (Box ConstantForm Global)) → literal_in (constants.List opener items last)
+    ≡ list_of (map literal_in items.items) (last_in (option_map (λ form. form.value) last))
 at_list opener items last = search (rules, constant_lemmas, constants_items, tail_held)
 
-pub at_vector : (opener : Token) (items : Vec ConstantForm Global) → constant_of (seen_constant (constants.Vector opener items)) ≡ core.vector (core.constants_of (map (λ form. constant_of (seen_constant form)) items.items))
+pub at_vector : (opener : Token) (items : Vec ConstantForm Global) → literal_in (constants.Vector opener items) ≡ core.Vector (map literal_in items.items)
 at_vector opener items = search (rules, constant_lemmas, constants_items)
 
 types_items : {m : _} (row : Row_of-TypeForm m) → shapes.types_of (seen_types row) ≡ types_of (map (λ form. type_of (seen_type form)) (items-the_row-TypeForm m row))
@@ -48,6 +48,6 @@ pub at_union : (word : Token) (inner : Vec TypeForm Global) → type_of (seen_ty
 at_union word inner = search (rules, type_lemmas, types_items)
 
 -- a list with items is no empty one
-pub some_list : (items : List Literal) (last : core.Tail) → length items == 0 ≡ false → list_of (core.constants_of (map seen_literal items)) last ≡ core.list (core.constants_of (map seen_literal items)) last
-some_list [] last some = absurd cc
+pub some_list : (items : List Literal) (last : Option Literal) → ¬ (items ≡ []) → list_of items last ≡ core.List items last
+some_list [] last some = absurd (some refl)
 some_list (first ∷ rest) last some = refl

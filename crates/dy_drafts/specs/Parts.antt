@@ -2,20 +2,21 @@
 -- DRM 7, "Statements").
 use Rattle.std.specs.Prelude.{ℕ, zero, suc, Bool, true, false, List, [], ◌∷◌, ◌++◌, length, codes, Option, Some, None, if◌then◌else◌}
 use Rattle.dy_tree.specs.declared.token.Token.{Token}
+use Rattle.dy_tree.specs.Spelling.{is_spelled}
 use Rattle.dy_term.specs.declared.term.Limit.{Limit}
 use Rattle.dy_term.specs.declared.term.Limit.TheVariants.{To, Above, Below}
 use Rattle.dy_term.specs.declared.draft.Local.{Local}
 use Rattle.dy_term.specs.declared.draft.Local.TheVariants.{Hidden}
-use Rattle.dy_term.specs.Literals as constants
+use Rattle.dy_term.specs.declared.literal.Literal as constants
 use Rattle.dy_term.specs.Types.{CoreType, object}
 use Rattle.dy_term.specs.Drafts.{Core, literal, name, hidden, cond, call, body, values, CoreItem, run, let_values, cores_of, choice_of, items_of}
-use Rattle.dy_drafts.specs.Shapes.{reads, name_at}
+use Rattle.dy_drafts.specs.Shapes.{name_at}
 
 abbrev pub false_core : Core
-false_core = literal (constants.bool false)
+false_core = literal (constants.Bool false)
 
 abbrev pub true_core : Core
-true_core = literal (constants.bool true)
+true_core = literal (constants.Bool true)
 
 -- a call of what a name means
 abbrev pub call_named : Token → List Core → Core
@@ -30,7 +31,7 @@ not_core test = choose test false_core true_core
 
 -- the name that a unary operator calls
 abbrev pub unary_name : Token → Token
-unary_name operator = if reads (codes "-") operator then name_at (codes "negative") operator else operator
+unary_name operator = if is_spelled (codes "-") operator then name_at (codes "negative") operator else operator
 
 -- items one after the other
 abbrev pub bodied : List CoreItem → Core
@@ -65,7 +66,7 @@ setter_at token = name_at (token.text ++ codes "-setter") token
 
 -- which end of the numbers of a `for` a word names
 abbrev pub limit_of : Token → Limit
-limit_of word = if reads (codes "to") word then To else (if reads (codes "above") word then Above else Below)
+limit_of word = if is_spelled (codes "to") word then To else (if is_spelled (codes "above") word then Above else Below)
 
 -- The test of an arm of a `case` is its first one; the grammar has one.
 abbrev pub first_or_false : List Core → Core

@@ -1,8 +1,7 @@
 -- Literals, types and parameter lists of the source, in the core (DRM 3, "Literal constants"; DRM 4, "Types"; DRM 6,
 -- "Parameter lists").
-use Rattle.std.specs.Prelude.{ℕ, ℤ, pos, negsuc, Bool, true, false, List, [], ◌∷◌, map, codes, Option, Some, None, if◌then◌else◌}
+use Rattle.std.specs.Prelude.{ℕ, ℤ, pos, negsuc, Bool, true, false, ◌||◌, List, [], ◌∷◌, map, codes, Option, Some, None, if◌then◌else◌}
 use Rattle.std.specs.Option.{option_map}
-use Rattle.std.specs.Str.{bytes_eq}
 use Rattle.std.specs.Int.{int_wrapping_neg, w64}
 use Rattle.dy_base.specs.Folding.{folded}
 use Rattle.dy_tree.specs.declared.token.Token.{Token}
@@ -10,17 +9,20 @@ use Rattle.dy_tree.specs.declared.token.TokenKind.TheVariants as kinds
 use Rattle.dy_tree.specs.declared.types.IntegerForm.{IntegerForm}
 use Rattle.dy_tree.specs.declared.types.LiteralForm.{LiteralForm}
 use Rattle.dy_tree.specs.declared.types.LiteralForm.TheVariants.{Int, Char, Str, Bool as Truth, Symbol}
+use Rattle.dy_tree.specs.Spelling.{is_spelled}
 use Rattle.dy_rules.specs.ConstantTrees as source
 use Rattle.dy_rules.specs.Types as source_types
 use Rattle.dy_rules.specs.Types.{Single, literal_single, empty_single, name_single, Bound, TypeTree, named_type, singleton_type, union_type, limited_type, TypeTrees, VariableTree, TargetTree, one_target, several, RequiredTree, required_variable, required_single, ResultTree, one_result, several_results}
 use Rattle.dy_term.specs.declared.draft.Local.{Local}
 use Rattle.dy_term.specs.declared.draft.Local.TheVariants.{Named}
-use Rattle.dy_term.specs.Literals as core
+use Rattle.dy_term.specs.declared.literal.Literal.{Literal}
+use Rattle.dy_term.specs.declared.literal.Literal as core
 use Rattle.dy_term.specs.Types.{CoreType, object, named, single, single_name, union, range, CoreTypes, no_type, type_and, CoreKey, CoreParams, CoreResults}
 
--- whether a token has this text
-abbrev pub reads : List ℕ → Token → Bool
-reads text token = bytes_eq token.text text
+-- whether one of the adjectives of a definition or a slot has this text
+abbrev pub has : List ℕ → List Token → Bool
+has text [] = false
+has text (word ∷ words) = is_spelled text word || has text words
 
 -- a name that is not written, with the place, the origin and the module of a token
 abbrev pub name_at : List ℕ → Token → Token
@@ -44,42 +46,42 @@ abbrev pub byte_of : List ℕ → ℕ
 byte_of [] = 0
 byte_of (byte ∷ bytes) = byte
 
-abbrev pub literal_of : LiteralForm → core.Constant
-literal_of (Int form) = core.int (integer_of form)
-literal_of (Char token) = core.char (byte_of token.text)
-literal_of (Str token) = core.str token.text
-literal_of (Truth token) = core.bool (reads (codes "#t") token)
-literal_of (Symbol token) = core.symbol (folded token.text)
+abbrev pub literal_of : LiteralForm → Literal
+literal_of (Int form) = core.Int (integer_of form)
+literal_of (Char token) = core.Char (byte_of token.text)
+literal_of (Str token) = core.Str token.text
+literal_of (Truth token) = core.Bool (is_spelled (codes "#t") token)
+literal_of (Symbol token) = core.Symbol (folded token.text)
 
 -- `#()` is the empty list. A list with items ends in what follows its dot.
-abbrev pub list_of : core.Constants → core.Tail → core.Constant
-list_of core.no_constant last = core.nil
-list_of (core.constant_and first rest) last = core.list (core.constant_and first rest) last
+abbrev pub list_of : List Literal → Option Literal → Literal
+list_of [] last = core.Nil
+list_of (first ∷ rest) last = core.List (first ∷ rest) last
 
 abbrev mutual
-  pub constant_of : source.Constant → core.Constant
+  pub constant_of : source.Constant → Literal
   constant_of (source.literal_item value) = literal_of value
   constant_of (source.list_item opener items last) = list_of (constants_of items) (tail_of last)
-  constant_of (source.vector_item opener items) = core.vector (constants_of items)
+  constant_of (source.vector_item opener items) = core.Vector (constants_of items)
 
-  pub constants_of : source.Constants → core.Constants
-  constants_of source.no_constant = core.no_constant
-  constants_of (source.constant_and first rest) = core.constant_and (constant_of first) (constants_of rest)
+  pub constants_of : source.Constants → List Literal
+  constants_of source.no_constant = []
+  constants_of (source.constant_and first rest) = constant_of first ∷ constants_of rest
 
-  pub tail_of : source.Tail → core.Tail
-  tail_of source.no_tail = core.no_tail
-  tail_of (source.tail value) = core.tail (constant_of value)
+  pub tail_of : source.Tail → Option Literal
+  tail_of source.no_tail = None
+  tail_of (source.tail value) = Some (constant_of value)
 
 -- the only value of a singleton type. A fault of a class's name is told at the given token.
 abbrev pub single_of : Token → Single → CoreType
 single_of told (literal_single value) = single (literal_of value)
-single_of told (empty_single opener) = single core.nil
+single_of told (empty_single opener) = single core.Nil
 single_of told (name_single token) = single_name told token
 
 -- the number of the first bound with this keyword, or the one that is the limit without it
 abbrev pub bound_of : List ℕ → ℤ → List Bound → ℤ
 bound_of text other [] = other
-bound_of text other (bound ∷ bounds) = if reads text bound.keyword then integer_of bound.number else bound_of text other bounds
+bound_of text other (bound ∷ bounds) = if is_spelled text bound.keyword then integer_of bound.number else bound_of text other bounds
 
 abbrev mutual
   pub type_of : TypeTree → CoreType
@@ -119,7 +121,7 @@ rest_of (several variables rest) = option_map Named rest
 -- the type of the parameter in `name == value`. A fault of a class's name is told at that name.
 abbrev pub only_of : Single → CoreType
 only_of (literal_single value) = single (literal_of value)
-only_of (empty_single opener) = single core.nil
+only_of (empty_single opener) = single core.Nil
 only_of (name_single class) = single_name class class
 
 abbrev pub required_of : RequiredTree → Token × CoreType

@@ -1,21 +1,19 @@
 //! Lists and vectors of literals (DRM 3, "Literal constants").
 
 ghost use Rattle.std.specs.Prelude.{◌≡◌, map, option_map, IfOk};
-ghost use Rattle.dy_term.specs.Literals as core;
-ghost use Rattle.dy_term.specs.Literals.{seen_literal};
-ghost use Rattle.dy_rules.specs.ConstantTrees.{constants_of as inner_of, tail_of as end_of};
-ghost use Rattle.dy_rules.specs.SeenTypes.{seen_constant};
-ghost use Rattle.dy_drafts.specs.Shapes.{constant_of, constants_of, tail_of, list_of};
+ghost use Rattle.dy_drafts.specs.Shapes.{list_of};
+ghost use Rattle.dy_drafts.specs.Literals.{literal_in, literals_in, last_in};
 
 use crate::literal::literal_of;
-use dy_term::{Literal, list_literal, vector_literal};
+use dy_base::Items;
+use dy_term::{Literal, list_literal};
 use dy_tree::ConstantForm;
 use std::alloc::{AllocError, Global};
 
 /// The literal of an item.
 #[cycle(constants)]
 fn constant_of(alloc: Global, form: &ConstantForm) -> Result<Literal, AllocError>
-    ensures { IfOk result (λ literal. seen_literal literal ≡ constant_of (seen_constant form.now)) }
+    ensures { IfOk result (λ literal. literal ≡ literal_in form.now) }
 {
     match form {
         ConstantForm::Literal(literal) => literal_of(alloc, literal),
@@ -24,19 +22,16 @@ fn constant_of(alloc: Global, form: &ConstantForm) -> Result<Literal, AllocError
             let tail = tail_of(alloc, tail)?;
             list_from(alloc, items, tail)
         }
-        ConstantForm::Vector { items, .. } => {
-            let items = constants_of(alloc, items)?;
-            Ok(vector_literal(items))
-        }
+        ConstantForm::Vector { items, .. } => Ok(Literal::Vector(constants_of(alloc, items)?)),
     }
 }
 
 /// The literals of items.
 #[cycle(constants)]
-fn constants_of(alloc: Global, forms: &Vec<ConstantForm>) -> Result<Vec<Literal>, AllocError>
-    ensures { IfOk result (λ literals. map seen_literal literals.items ≡ map (λ form. constant_of (seen_constant form)) forms.now.items) }
+fn constants_of(alloc: Global, forms: &Vec<ConstantForm>) -> Result<Items<Literal>, AllocError>
+    ensures { IfOk result (λ literals. literals ≡ map literal_in forms.now.items) }
 {
-    let mut literals = Vec::new(alloc);
+    let mut literals = Items::new(alloc);
     for form in forms {
         literals.push(constant_of(alloc, form)?)?;
     }
@@ -46,7 +41,7 @@ fn constants_of(alloc: Global, forms: &Vec<ConstantForm>) -> Result<Vec<Literal>
 /// The literal behind a dot, if there is one.
 #[cycle(constants)]
 fn tail_of(alloc: Global, tail: &Option<Box<ConstantForm>>) -> Result<Option<Literal>, AllocError>
-    ensures { IfOk result (λ literal. core.tail_of (option_map seen_literal literal) ≡ tail_of (end_of (option_map (λ form. seen_constant form.value) tail.now))) }
+    ensures { IfOk result (λ literal. literal ≡ last_in (option_map (λ form. form.value) tail.now)) }
 {
     match tail {
         None => Ok(None),
@@ -57,12 +52,12 @@ fn tail_of(alloc: Global, tail: &Option<Box<ConstantForm>>) -> Result<Option<Lit
 /// A list, which without items is the empty one.
 fn list_from(
     alloc: Global,
-    items: Vec<Literal>,
+    items: Items<Literal>,
     tail: Option<Literal>,
 ) -> Result<Literal, AllocError>
-    ensures { IfOk result (λ literal. seen_literal literal ≡ list_of (core.constants_of (map seen_literal items.items)) (core.tail_of (option_map seen_literal tail))) }
+    ensures { IfOk result (λ literal. literal ≡ list_of items tail) }
 {
-    if items.is_empty() {
+    if items.as_slice().is_empty() {
         return Ok(Literal::Nil);
     }
     list_literal(alloc, items, tail)
@@ -75,7 +70,7 @@ pub fn list_of(
     items: &Vec<ConstantForm>,
     tail: &Option<ConstantForm>,
 ) -> Result<Literal, AllocError>
-    ensures { IfOk result (λ literal. seen_literal literal ≡ list_of (constants_of (inner_of (map seen_constant items.now.items))) (tail_of (end_of (option_map seen_constant tail.now)))) }
+    ensures { IfOk result (λ made. made ≡ list_of (literals_in items.now.items) (last_in tail.now)) }
 {
     let items = constants_of(alloc, items)?;
     match tail {
@@ -90,8 +85,7 @@ pub fn list_of(
 /// A vector literal.
 #[tactic(auto, using(crate::proofs::Rows::constants_listed))]
 pub fn vector_of(alloc: Global, items: &Vec<ConstantForm>) -> Result<Literal, AllocError>
-    ensures { IfOk result (λ literal. seen_literal literal ≡ core.vector (constants_of (inner_of (map seen_constant items.now.items)))) }
+    ensures { IfOk result (λ made. made ≡ Literal.Vector (literals_in items.now.items)) }
 {
-    let items = constants_of(alloc, items)?;
-    Ok(vector_literal(items))
+    Ok(Literal::Vector(constants_of(alloc, items)?))
 }

@@ -13,7 +13,7 @@ mod variables;
 
 pub use constants::{list_of, vector_of};
 pub use literal::{integer_of, keyword_of, literal_of};
-pub use names::{copy_all, copy_maybe, name_at, reads, setter_at};
+pub use names::{copy_all, copy_maybe, has, name_at, setter_at};
 pub use operators::{call_named, element, logical, member, operation, unary};
 pub use parameters::{key_of, required_of, results_of};
 pub use places::{set_element, set_member, setting, with_rest};

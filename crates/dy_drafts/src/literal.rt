@@ -2,11 +2,9 @@
 
 ghost use Rattle.std.specs.Prelude.{◌≡◌, IfOk};
 ghost use Rattle.dy_base.specs.Folding.{folded};
-ghost use Rattle.dy_term.specs.Literals.{seen_literal, symbol};
 ghost use Rattle.dy_term.specs.Drafts.{literal, seen_term};
 ghost use Rattle.dy_drafts.specs.Shapes.{byte_of, integer_of, literal_of};
 
-use crate::names::reads;
 use dy_base::{Text, fold};
 use dy_term::{DraftTerm, Literal};
 use dy_tree::{IntegerForm, LiteralForm, Token};
@@ -33,20 +31,20 @@ fn byte_of(text: &[u8]) -> u8
 
 /// A literal.
 pub fn literal_of(alloc: Global, form: &LiteralForm) -> Result<Literal, AllocError>
-    ensures { IfOk result (λ literal. seen_literal literal ≡ literal_of form.now) }
+    ensures { IfOk result (λ literal. literal ≡ literal_of form.now) }
 {
     match form {
         LiteralForm::Int(form) => Ok(Literal::Int(integer_of(form))),
         LiteralForm::Char(token) => Ok(Literal::Char(byte_of(token.text.bytes()))),
         LiteralForm::Str(token) => Ok(Literal::Str(Text::of(alloc, token.text.bytes())?)),
-        LiteralForm::Bool(token) => Ok(Literal::Bool(reads(b"#t", token))),
+        LiteralForm::Bool(token) => Ok(Literal::Bool(token.is_spelled(b"#t"))),
         LiteralForm::Symbol(token) => Ok(Literal::Symbol(fold(alloc, token.text.bytes())?)),
     }
 }
 
 /// The keyword of an argument, which is a symbol.
 pub fn keyword_of(alloc: Global, keyword: &Token) -> Result<DraftTerm, AllocError>
-    ensures { IfOk result (λ term. seen_term term ≡ literal (symbol (folded keyword.now.text))) }
+    ensures { IfOk result (λ term. seen_term term ≡ literal (Literal.Symbol (folded keyword.now.text))) }
 {
     let name = fold(alloc, keyword.text.bytes())?;
     Ok(DraftTerm::Lit(Literal::Symbol(name)))

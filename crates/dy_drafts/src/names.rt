@@ -1,18 +1,23 @@
 //! Names that are not written.
 
 ghost use Rattle.std.specs.Prelude.{◌≡◌, IfOk};
-ghost use Rattle.dy_drafts.specs.Shapes.{reads, name_at};
+ghost use Rattle.dy_drafts.specs.Shapes.{has, name_at};
 ghost use Rattle.dy_drafts.specs.Parts.{setter_at};
 
 use dy_base::Text;
 use dy_tree::{Token, TokenKind};
 use std::alloc::{AllocError, Global};
 
-/// Whether a token has this text.
-pub fn reads(text: &[u8], token: &Token) -> bool
-    ensures { result ≡ reads text.now token.now }
+/// Whether one of the adjectives of a definition or a slot has this text.
+pub fn has(text: &[u8], words: &[Token]) -> bool
+    ensures { result ≡ has text.now words.now }
 {
-    token.text.bytes() == text
+    for word in words {
+        if word.is_spelled(text) {
+            return true;
+        }
+    }
+    false
 }
 
 /// A name that is not written, with the place, the origin and the module of a token.

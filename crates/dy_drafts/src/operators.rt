@@ -1,11 +1,12 @@
 //! Operators, elements and members of drafts (DRM 4, "Operators").
 
 ghost use Rattle.std.specs.Prelude.{◌≡◌, [], ◌∷◌, map, codes, IfOk, if◌then◌else◌};
+ghost use Rattle.dy_tree.specs.Spelling.{is_spelled};
 ghost use Rattle.dy_term.specs.Drafts.{name, and, or, seen_term};
-ghost use Rattle.dy_drafts.specs.Shapes.{reads, name_at};
+ghost use Rattle.dy_drafts.specs.Shapes.{name_at};
 ghost use Rattle.dy_drafts.specs.Parts.{call_named, unary_name};
 
-use crate::names::{name_at, reads};
+use crate::names::name_at;
 use dy_term::{DraftTerm, and_draft, call_draft, or_draft};
 use dy_tree::Token;
 use std::alloc::{AllocError, Global};
@@ -60,9 +61,9 @@ pub fn logical(
     operator: &Token,
     right: DraftTerm,
 ) -> Result<DraftTerm, AllocError>
-    ensures { IfOk result (λ term. seen_term term ≡ if reads (codes "&") operator.now then and (seen_term left) (seen_term right) else or (seen_term left) (seen_term right)) }
+    ensures { IfOk result (λ term. seen_term term ≡ if is_spelled (codes "&") operator.now then and (seen_term left) (seen_term right) else or (seen_term left) (seen_term right)) }
 {
-    if reads(b"&", operator) {
+    if operator.is_spelled(b"&") {
         and_draft(alloc, left, right)
     } else {
         or_draft(alloc, left, right)
@@ -73,7 +74,7 @@ pub fn logical(
 fn unary_name(alloc: Global, operator: &Token) -> Result<Token, AllocError>
     ensures { IfOk result (λ name. name ≡ unary_name operator.now) }
 {
-    if reads(b"-", operator) {
+    if operator.is_spelled(b"-") {
         name_at(alloc, b"negative", operator)
     } else {
         operator.copy()

@@ -4,7 +4,6 @@ ghost use Rattle.std.specs.Prelude.{◌≡◌, map, IfOk};
 ghost use Rattle.dy_term.specs.Drafts.{loop, seen_term};
 ghost use Rattle.dy_drafts.specs.Parts.{false_core, true_core, choose, not_core, limit_of, first_or_false};
 
-use crate::names::reads;
 use dy_term::{DraftTerm, Limit, Literal, cond_draft, loop_draft};
 use dy_tree::Token;
 use std::alloc::{AllocError, Global};
@@ -73,9 +72,9 @@ pub fn until_draft(alloc: Global, test: DraftTerm, body: DraftTerm) -> Result<Dr
 pub fn limit_of(word: &Token) -> Limit
     ensures { result ≡ limit_of word.now }
 {
-    if reads(b"to", word) {
+    if word.is_spelled(b"to") {
         Limit::To
-    } else if reads(b"above", word) {
+    } else if word.is_spelled(b"above") {
         Limit::Above
     } else {
         Limit::Below

@@ -6,7 +6,6 @@ ghost use Rattle.dy_rules.specs.SeenTypes.{seen_bound, seen_single, seen_type};
 ghost use Rattle.dy_drafts.specs.Shapes.{single_of, only_of, bound_of, type_of, declared_or};
 
 use crate::literal::{integer_of, literal_of};
-use crate::names::reads;
 use dy_term::{DraftType, Literal, union_draft};
 use dy_tree::{BoundForm, SingleForm, Token, TypeForm};
 use std::alloc::{AllocError, Global};
@@ -38,7 +37,7 @@ fn bound_of(text: &[u8], other: i64, bounds: &[BoundForm]) -> i64
     ensures { result ≡ bound_of text.now other (map seen_bound bounds.now) }
 {
     for bound in bounds {
-        if reads(text, &bound.keyword) {
+        if bound.keyword.is_spelled(text) {
             return integer_of(&bound.number);
         }
     }

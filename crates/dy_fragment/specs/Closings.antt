@@ -1,9 +1,10 @@
 -- What closes a group (DRM 2, "Statements" and "Definitions"; what may follow `end`, and which words may not, is own).
 use Rattle.std.specs.Prelude.{ℕ, ◌+◌, ◌≤◌, Bool, ◌&&◌, ◌||◌, if◌then◌else◌, List, Option, Some, None, slice_get, not}
-use Rattle.std.specs.Str.{bytes_eq}
 use Rattle.dy_tree.specs.declared.token.Token.{Token}
 use Rattle.dy_tree.specs.declared.macros.MacroKind.TheVariants as kinds
 use Rattle.dy_tree.specs.declared.words.Words.{Words}
+use Rattle.dy_tree.specs.Spelling.{is_spelled, is_name_kind}
+use Rattle.dy_tree.specs.Spelling as spelling
 use Rattle.dy_fragment.specs.declared.front.Mode.{Mode}
 use Rattle.dy_fragment.specs.declared.front.Mode.TheVariants as modes
 use Rattle.dy_fragment.specs.declared.front.Local.TheVariants as locals
@@ -17,19 +18,20 @@ use Rattle.dy_fragment.specs.declared.closing.Closing.TheVariants as closings
 use Rattle.dy_fragment.specs.declared.closing.Closed.{Closed}
 use Rattle.dy_fragment.specs.declared.closing.Closed.TheVariants.{At, Wrong}
 use Rattle.dy_fragment.specs.Signs.{same_shape}
-use Rattle.dy_fragment.specs.Words.{is_name, is_escaped, is_end, is_define, is_word}
+use Rattle.dy_fragment.specs.Fronts.{in_macro}
+use Rattle.dy_fragment.specs.Words.{is_escaped, is_end, is_define, is_word}
 
 -- the opener's word, again
 abbrev pub is_same_word : Token → Token → Bool
-is_same_word word t = is_name t.kind && bytes_eq word.text t.text
+is_same_word word t = spelling.is_word word.text t
 
 -- `define` and `end` are the names of nothing
 abbrev pub may_be_defined : Token → Bool
-may_be_defined t = is_escaped t.kind || (is_name t.kind && not (is_end t) && not (is_define t))
+may_be_defined t = is_escaped t.kind || (is_name_kind t.kind && not (is_end t) && not (is_define t))
 
 -- the defined name, again
 abbrev pub is_same_name : Token → Token → Bool
-is_same_name name t = may_be_defined name && may_be_defined t && bytes_eq name.text t.text
+is_same_name name t = may_be_defined name && may_be_defined t && is_spelled name.text t
 
 -- the place after a token, if the token is as the test wants it
 abbrev pub past : (Token → Token → Bool) → ℕ → Option Token → Option Token → ℕ
@@ -62,9 +64,10 @@ abbrev pub closed_word : Words → Opening → ℕ → Option Token → Closed
 closed_word words opening at None = At at (after_word opening)
 closed_word words opening at (Some t) = if is_foreign words t then Wrong t.place else At at (after_word opening)
 
--- outside of the braces of a macro definition what it was before them groups again
+-- outside of the braces of a macro definition what it was before them groups again, also where the definition began within them
 abbrev pub restored : Mode → Mode → Mode
-restored outside modes.Rules = outside
+restored outside modes.Rules = in_macro outside
+restored outside modes.BracedHeader = outside
 restored outside modes.Words = modes.Words
 restored outside modes.Header = modes.Header
 restored outside modes.Macro = modes.Macro

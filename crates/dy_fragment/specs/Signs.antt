@@ -1,28 +1,29 @@
 -- Brackets and commas (DRM 2, "Lexical syntax").
-use Rattle.std.specs.Prelude.{ℕ, Bool, true, false, if◌then◌else◌, List, codes}
-use Rattle.std.specs.Str.{bytes_eq}
+use Rattle.std.specs.Prelude.{Bool, true, false, if◌then◌else◌, codes}
+use Rattle.dy_tree.specs.declared.token.Token.{Token}
+use Rattle.dy_tree.specs.Spelling.{is_spelled}
 use Rattle.dy_fragment.specs.declared.sign.Bracket.{Bracket}
 use Rattle.dy_fragment.specs.declared.sign.Bracket.TheVariants.{Round, Square, Curly}
 use Rattle.dy_fragment.specs.declared.sign.Sign.{Sign}
 use Rattle.dy_fragment.specs.declared.sign.Sign.TheVariants.{Opens, Closes, Comma, Other}
 
-abbrev pub closing_sign : List ℕ → Sign
-closing_sign text =
-    if bytes_eq text (codes ")") then Closes Round
-    else if bytes_eq text (codes "]") then Closes Square
-    else if bytes_eq text (codes "}") then Closes Curly
-    else if bytes_eq text (codes ",") then Comma
+abbrev pub closing_sign : Token → Sign
+closing_sign token =
+    if is_spelled (codes ")") token then Closes Round
+    else if is_spelled (codes "]") token then Closes Square
+    else if is_spelled (codes "}") token then Closes Curly
+    else if is_spelled (codes ",") token then Comma
     else Other
 
 -- what punctuation does to groups
-abbrev pub sign_of : List ℕ → Sign
-sign_of text =
-    if bytes_eq text (codes "(") then Opens Round
-    else if bytes_eq text (codes "#(") then Opens Round
-    else if bytes_eq text (codes "[") then Opens Square
-    else if bytes_eq text (codes "#[") then Opens Square
-    else if bytes_eq text (codes "{") then Opens Curly
-    else closing_sign text
+abbrev pub sign_of : Token → Sign
+sign_of token =
+    if is_spelled (codes "(") token then Opens Round
+    else if is_spelled (codes "#(") token then Opens Round
+    else if is_spelled (codes "[") token then Opens Square
+    else if is_spelled (codes "#[") token then Opens Square
+    else if is_spelled (codes "{") token then Opens Curly
+    else closing_sign token
 
 -- whether a closer fits a bracket
 abbrev pub same_shape : Bracket → Bracket → Bool

@@ -1,40 +1,29 @@
 -- Which tokens are words (DRM 2, "Lexical syntax", and DRM 10; in which modules a word is known is own).
 use Rattle.std.specs.Prelude.{ℕ, ◌+◌, Bool, true, false, ◌&&◌, ◌||◌, ◌==◌, if◌then◌else◌, List, [], ◌∷◌, codes, Option, Some, None}
-use Rattle.std.specs.Str.{bytes_eq}
 use Rattle.dy_tree.specs.declared.token.TokenKind.{TokenKind}
-use Rattle.dy_tree.specs.declared.token.TokenKind.TheVariants.{Name, Escaped, Punctuation}
+use Rattle.dy_tree.specs.declared.token.TokenKind.TheVariants.{Escaped}
 use Rattle.dy_tree.specs.declared.token.Token.{Token}
 use Rattle.dy_tree.specs.declared.macros.MacroKind.{MacroKind}
 use Rattle.dy_tree.specs.declared.macros.MacroKind.TheVariants.{Function, Statement, Definition}
 use Rattle.dy_tree.specs.declared.words.Word.{Word}
 use Rattle.dy_tree.specs.declared.words.Words.{Words}
+use Rattle.dy_tree.specs.Spelling.{is_spelled, is_name_kind}
+use Rattle.dy_tree.specs.Spelling as spelling
 use Rattle.dy_fragment.specs.declared.word.Defined.{Defined}
 use Rattle.dy_fragment.specs.declared.word.Defined.TheVariants.{Absent, Bare, Ended}
-
-abbrev pub is_name : TokenKind → Bool
-is_name Name = true
-is_name _ = false
 
 abbrev pub is_escaped : TokenKind → Bool
 is_escaped Escaped = true
 is_escaped _ = false
 
-abbrev pub is_punctuation : TokenKind → Bool
-is_punctuation Punctuation = true
-is_punctuation _ = false
-
--- a name with this spelling and no backslash
-abbrev pub spells : List ℕ → Token → Bool
-spells text t = is_name t.kind && bytes_eq t.text text
-
 abbrev pub is_end : Token → Bool
-is_end t = spells (codes "end") t
+is_end t = spelling.is_word (codes "end") t
 
 abbrev pub is_define : Token → Bool
-is_define t = spells (codes "define") t
+is_define t = spelling.is_word (codes "define") t
 
 abbrev pub is_semicolon : Token → Bool
-is_semicolon t = is_punctuation t.kind && bytes_eq t.text (codes ";")
+is_semicolon t = spelling.is_sign (codes ";") t
 
 abbrev pub is_of : MacroKind → MacroKind → Bool
 is_of Function Function = true
@@ -56,7 +45,7 @@ abbrev pub is_known_in : Word → ℕ → Bool
 is_known_in w module_number = known_by w.at (w.module == module_number)
 
 abbrev pub fits : MacroKind → Token → Word → Bool
-fits kind t w = is_of kind w.kind && is_known_in w t.module && bytes_eq w.name t.text
+fits kind t w = is_of kind w.kind && is_known_in w t.module && is_spelled w.name t
 
 abbrev pub is_one_of : MacroKind → Token → List Word → Bool
 is_one_of kind t [] = false
@@ -64,11 +53,11 @@ is_one_of kind t (w ∷ ws) = fits kind t w || is_one_of kind t ws
 
 -- a token is a word of this kind if it is a name with no backslash that its module knows so
 abbrev pub is_word : MacroKind → Words → Token → Bool
-is_word kind words t = is_name t.kind && is_one_of kind t words.items
+is_word kind words t = is_name_kind t.kind && is_one_of kind t words.items
 
 -- these definitions end before the next semicolon or at the end of the file
 abbrev pub has_no_end : Token → Bool
-has_no_end t = bytes_eq t.text (codes "constant") || bytes_eq t.text (codes "domain") || bytes_eq t.text (codes "generic") || bytes_eq t.text (codes "variable")
+has_no_end t = is_spelled (codes "constant") t || is_spelled (codes "domain") t || is_spelled (codes "generic") t || is_spelled (codes "variable") t
 
 abbrev pub defined_by : Bool → ℕ → Defined
 defined_by true at = Bare

@@ -3,8 +3,8 @@
 ghost use Rattle.std.specs.Prelude.{◌≡◌, ◌+◌, ◌≤◌, ◌<◌, length, slice_get};
 ghost use Rattle.dy_fragment.specs.Closings as spec;
 
-use crate::front::{Closer, Context, Local, Mode};
-use crate::sign::{Bracket, same_shape, same_text};
+use crate::front::{Closer, Context, Local, Mode, in_macro};
+use crate::sign::{Bracket, same_shape};
 use crate::word::{is_define, is_end, is_escaped, is_name, is_word};
 use dy_base::Place;
 use dy_tree::{MacroKind, Token, Words};
@@ -39,7 +39,7 @@ pub enum Closed {
 fn is_same_word(word: &Token, token: &Token) -> bool
     ensures { result ≡ spec.is_same_word word.now token.now }
 {
-    is_name(token.kind) && same_text(word.text.bytes(), token.text.bytes())
+    token.is_word(word.text.bytes())
 }
 
 /// Whether a token may be a name that is defined.
@@ -56,9 +56,7 @@ fn may_be_defined(token: &Token) -> bool
 fn is_same_name(name: &Token, token: &Token) -> bool
     ensures { result ≡ spec.is_same_name name.now token.now }
 {
-    may_be_defined(name)
-        && may_be_defined(token)
-        && same_text(name.text.bytes(), token.text.bytes())
+    may_be_defined(name) && may_be_defined(token) && token.is_spelled(name.text.bytes())
 }
 
 /// The place after the opener's word, if that stands here.
@@ -163,7 +161,8 @@ fn after_bracket(outside: Mode, inside: Mode) -> Context
     ensures { result ≡ spec.after_bracket outside inside }
 {
     let mode = match inside {
-        Mode::Rules => outside,
+        Mode::Rules => in_macro(outside),
+        Mode::BracedHeader => outside,
         Mode::Words => Mode::Words,
         Mode::Header => Mode::Header,
         Mode::Macro => Mode::Macro,

@@ -4,7 +4,7 @@ ghost use Rattle.std.specs.Prelude.{◌≡◌, ◌+◌, ◌≤◌, ◌<◌, leng
 ghost use Rattle.dy_fragment.specs.Fronts as spec;
 
 use crate::closing::{Closing, Opening};
-use crate::sign::{Bracket, Sign, same_text, sign_of};
+use crate::sign::{Bracket, Sign, sign_of};
 use crate::word::{Defined, defined_from, is_define, is_end, is_word};
 use dy_tree::{MacroKind, Token, TokenKind, Words};
 
@@ -15,6 +15,8 @@ pub enum Mode {
     Words,
     /// Between `define` and its definition word, no word does.
     Header,
+    /// Nor there within braces.
+    BracedHeader,
     /// In a macro definition, outside of its braces, `end` alone does.
     Macro,
     /// Within the braces of a macro definition, no word does.
@@ -76,7 +78,7 @@ fn inside(bracket: Bracket, outside: Mode) -> Mode
         Bracket::Square => outside,
         Bracket::Curly => match outside {
             Mode::Words => Mode::Words,
-            Mode::Header => Mode::Header,
+            Mode::Header | Mode::BracedHeader => Mode::BracedHeader,
             Mode::Macro => Mode::Rules,
             Mode::Rules => Mode::Rules,
         },
@@ -143,7 +145,7 @@ fn is_wanted(local: Local) -> bool
 fn opening_of(token: &Token, local: Local) -> Opening
     ensures { result ≡ spec.opening_of token.now local }
 {
-    if is_wanted(local) && same_text(token.text.bytes(), b"method") {
+    if is_wanted(local) && token.is_spelled(b"method") {
         Opening::LocalMethod
     } else {
         Opening::Statement
@@ -162,7 +164,7 @@ fn front_of_word(words: &Words, token: &Token, at: usize, local: Local) -> Front
                 local: Local::Off,
             },
         )
-    } else if same_text(token.text.bytes(), b"local") {
+    } else if token.is_spelled(b"local") {
         Front::Leaf(Context {
             mode: Mode::Words,
             local: Local::Wanted,
@@ -185,18 +187,35 @@ fn front_of_name(words: &Words, tokens: &[Token], token: &Token, at: usize, loca
     }
 }
 
+/// What groups behind the word of a macro definition, and outside of braces in which it stands.
+pub(crate) fn in_macro(mode: Mode) -> Mode
+    ensures { result ≡ spec.in_macro mode }
+{
+    match mode {
+        Mode::Words => Mode::Words,
+        Mode::Header | Mode::Macro => Mode::Macro,
+        Mode::BracedHeader | Mode::Rules => Mode::Rules,
+    }
+}
+
+fn front_of_definition(token: &Token, mode: Mode) -> Front
+    ensures { result ≡ spec.front_of_definition token.now mode }
+{
+    if token.is_spelled(b"macro") {
+        leaf(in_macro(mode))
+    } else {
+        leaf(Mode::Words)
+    }
+}
+
 /// A name after `define`, up to the definition word.
-fn front_in_header(words: &Words, token: &Token) -> Front
-    ensures { result ≡ spec.front_in_header words.now token.now }
+fn front_in_header(words: &Words, token: &Token, mode: Mode) -> Front
+    ensures { result ≡ spec.front_in_header words.now token.now mode }
 {
     if is_word(MacroKind::Definition, words, token) {
-        if same_text(token.text.bytes(), b"macro") {
-            leaf(Mode::Macro)
-        } else {
-            leaf(Mode::Words)
-        }
+        front_of_definition(token, mode)
     } else {
-        leaf(Mode::Header)
+        leaf(mode)
     }
 }
 
@@ -222,10 +241,10 @@ pub(crate) fn front_at(
     ensures { result ≡ spec.front_at words.now tokens.now token.now at context }
 {
     match token.kind {
-        TokenKind::Punctuation => front_of_sign(sign_of(token.text.bytes()), context),
+        TokenKind::Punctuation => front_of_sign(sign_of(token), context),
         TokenKind::Name => match context.mode {
             Mode::Words => front_of_name(words, tokens, token, at, context.local),
-            Mode::Header => front_in_header(words, token),
+            Mode::Header | Mode::BracedHeader => front_in_header(words, token, context.mode),
             Mode::Macro => front_in_macro(token),
             Mode::Rules => leaf(Mode::Rules),
         },

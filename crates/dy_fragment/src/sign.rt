@@ -1,8 +1,9 @@
 //! Brackets and commas.
 
 ghost use Rattle.std.specs.Prelude.{◌≡◌};
-ghost use Rattle.std.specs.Str.{bytes_eq};
 ghost use Rattle.dy_fragment.specs.Signs as signs;
+
+use dy_tree::Token;
 
 /// The shape of a bracket, by its closer. `#(` and `#[` open like `(` and `[`.
 #[derive(Clone, Copy, Debug, PartialEq, Eq)]
@@ -24,43 +25,37 @@ pub enum Sign {
     Other,
 }
 
-pub(crate) fn same_text(text: &[u8], other: &[u8]) -> bool
-    ensures { result ≡ bytes_eq text.now other.now }
+fn closing_sign(token: &Token) -> Sign
+    ensures { result ≡ signs.closing_sign token.now }
 {
-    text == other
-}
-
-fn closing_sign(text: &[u8]) -> Sign
-    ensures { result ≡ signs.closing_sign text.now }
-{
-    if same_text(text, b")") {
+    if token.is_spelled(b")") {
         Sign::Closes(Bracket::Round)
-    } else if same_text(text, b"]") {
+    } else if token.is_spelled(b"]") {
         Sign::Closes(Bracket::Square)
-    } else if same_text(text, b"}") {
+    } else if token.is_spelled(b"}") {
         Sign::Closes(Bracket::Curly)
-    } else if same_text(text, b",") {
+    } else if token.is_spelled(b",") {
         Sign::Comma
     } else {
         Sign::Other
     }
 }
 
-pub(crate) fn sign_of(text: &[u8]) -> Sign
-    ensures { result ≡ signs.sign_of text.now }
+pub(crate) fn sign_of(token: &Token) -> Sign
+    ensures { result ≡ signs.sign_of token.now }
 {
-    if same_text(text, b"(") {
+    if token.is_spelled(b"(") {
         Sign::Opens(Bracket::Round)
-    } else if same_text(text, b"#(") {
+    } else if token.is_spelled(b"#(") {
         Sign::Opens(Bracket::Round)
-    } else if same_text(text, b"[") {
+    } else if token.is_spelled(b"[") {
         Sign::Opens(Bracket::Square)
-    } else if same_text(text, b"#[") {
+    } else if token.is_spelled(b"#[") {
         Sign::Opens(Bracket::Square)
-    } else if same_text(text, b"{") {
+    } else if token.is_spelled(b"{") {
         Sign::Opens(Bracket::Curly)
     } else {
-        closing_sign(text)
+        closing_sign(token)
     }
 }
 

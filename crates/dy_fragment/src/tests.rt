@@ -352,7 +352,7 @@ const BARE: [(&str, &str); 12] = [
     ("define function f end class", " Unbalanced @4"),
 ];
 
-const MACROS: [(&str, &str); 8] = [
+const MACROS: [(&str, &str); 16] = [
     (
         "define macro m { if ( a ) end } => { define } end macro m",
         " {define macro m {{ if {( a )} end }} => {{ define }} end}",
@@ -372,6 +372,32 @@ const MACROS: [(&str, &str); 8] = [
     (
         "define macro m { } end ; begin end",
         " {define macro m {{ }} end} ; {begin end}",
+    ),
+    (
+        "define { macro m end } end",
+        " {define {{ macro m end }} end}",
+    ),
+    (
+        "define { macro m { end } } if end macro m ; if end",
+        " {define {{ macro m {{ end }} }} if end} ; {if end}",
+    ),
+    (
+        "define { ( macro m end ) end } end",
+        " {define {{ {( macro m end )} end }} end}",
+    ),
+    (
+        "define ( { end { macro m end } end } ) { end } end",
+        " {define {( {{ end {{ macro m end }} end }} )} {{ end }} end}",
+    ),
+    ("define ( { macro m } end )", " Unbalanced @6"),
+    ("define { macro m end }", " Unbalanced @0"),
+    (
+        "define { a } { end } macro m if end",
+        " {define {{ a }} {{ end }} macro m if end}",
+    ),
+    (
+        "define { class if end } end",
+        " {define {{ class {if end} }} end}",
     ),
 ];
 

@@ -1,14 +1,13 @@
 //! Which tokens are words.
 
 ghost use Rattle.std.specs.Prelude.{◌≡◌, drop, codes};
-ghost use Rattle.std.specs.Str.{bytes_eq};
+ghost use Rattle.dy_tree.specs.Spelling.{is_name_kind};
 ghost use Rattle.dy_fragment.specs.Words as spec;
 
-use crate::sign::same_text;
 use dy_tree::{MacroKind, Token, TokenKind, Word, Words};
 
 pub(crate) fn is_name(kind: TokenKind) -> bool
-    ensures { result ≡ spec.is_name kind }
+    ensures { result ≡ is_name_kind kind }
 {
     matches!(kind, TokenKind::Name)
 }
@@ -19,28 +18,22 @@ pub(crate) fn is_escaped(kind: TokenKind) -> bool
     matches!(kind, TokenKind::Escaped)
 }
 
-pub(crate) fn is_punctuation(kind: TokenKind) -> bool
-    ensures { result ≡ spec.is_punctuation kind }
-{
-    matches!(kind, TokenKind::Punctuation)
-}
-
 pub(crate) fn is_end(token: &Token) -> bool
     ensures { result ≡ spec.is_end token.now }
 {
-    is_name(token.kind) && same_text(token.text.bytes(), b"end")
+    token.is_word(b"end")
 }
 
 pub(crate) fn is_define(token: &Token) -> bool
     ensures { result ≡ spec.is_define token.now }
 {
-    is_name(token.kind) && same_text(token.text.bytes(), b"define")
+    token.is_word(b"define")
 }
 
 pub(crate) fn is_semicolon(token: &Token) -> bool
     ensures { result ≡ spec.is_semicolon token.now }
 {
-    is_punctuation(token.kind) && same_text(token.text.bytes(), b";")
+    token.is_sign(b";")
 }
 
 fn is_of(wanted: MacroKind, kind: MacroKind) -> bool
@@ -67,9 +60,7 @@ fn is_known_in(word: &Word, number: u32) -> bool
 fn fits(kind: MacroKind, token: &Token, word: &Word) -> bool
     ensures { result ≡ spec.fits kind token.now word.now }
 {
-    is_of(kind, word.kind)
-        && is_known_in(word, token.module)
-        && same_text(word.name.bytes(), token.text.bytes())
+    is_of(kind, word.kind) && is_known_in(word, token.module) && token.is_spelled(word.name.bytes())
 }
 
 fn is_one_of(kind: MacroKind, token: &Token, words: &[Word]) -> bool
@@ -94,11 +85,10 @@ pub(crate) fn is_word(kind: MacroKind, words: &Words, token: &Token) -> bool
 fn has_no_end(token: &Token) -> bool
     ensures { result ≡ spec.has_no_end token.now }
 {
-    let text = token.text.bytes();
-    same_text(text, b"constant")
-        || same_text(text, b"domain")
-        || same_text(text, b"generic")
-        || same_text(text, b"variable")
+    token.is_spelled(b"constant")
+        || token.is_spelled(b"domain")
+        || token.is_spelled(b"generic")
+        || token.is_spelled(b"variable")
 }
 
 /// What the definition word of a `define` is.

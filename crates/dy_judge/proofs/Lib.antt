@@ -3,6 +3,5 @@ pub mod Cutting
 pub mod Reading
 pub mod PlainTokens
 pub mod PlainForms
-pub mod Readings
 pub mod Uniqueness
 pub mod Verdicts

@@ -5,8 +5,7 @@ use Rattle.dy_base.specs.declared.fault.Fault.{Fault}
 use Rattle.dy_tree.specs.declared.token.Token.{Token}
 use Rattle.dy_tree.specs.Fragments.{SeenFragment}
 use Rattle.dy_lexer.specs.declared.source.Source.{Source}
-use Rattle.dy_lexer.specs.Sources.{source_of, IsSource, IsFirst, Reads, Refuses}
-use Rattle.dy_lexer.proofs.SourceFile.{reads, refuses}
+use Rattle.dy_lexer.proofs.OneReading.{one_source, one_first, source_or_fault}
 use Rattle.dy_fragment.specs.Steps.{Grouping, group_of}
 use Rattle.dy_fragment.proofs.Verdicts.{given_all, unique}
 use Rattle.dy_fragment.proofs.Telling.{determined}
@@ -15,21 +14,14 @@ use Rattle.dy_judge.specs.declared.lexing.Lexed.TheVariants.{Read, Faulty}
 use Rattle.dy_judge.specs.Words.{words}
 use Rattle.dy_judge.specs.Files.{Lexes}
 use Rattle.dy_judge.specs.Library.{is_library}
-use Rattle.dy_judge.proofs.Readings.{given, gives, both_read, both_refused, read_or_refused}
 use Rattle.dy_judge.specs.Verdicts.{Verdict, refused, forms_verdict, JudgesTokens, JudgesBoth, JudgesFiles, IsVerdict}
-
-is_read : (file : ℕ) (text : List ℕ) (source : Source) → IsSource file text source → Reads (given (source_of file text)) source
-is_read file text source is = reads file text (given (source_of file text)) source (gives (source_of file text)) is
-
-is_refused : (file : ℕ) (text : List ℕ) (fault : Fault) → IsFirst file text fault → Refuses (given (source_of file text)) fault
-is_refused file text fault is = refuses file text (given (source_of file text)) fault (gives (source_of file text)) is
 
 -- a file is lexed in one way
 lexed_one : (file : ℕ) (text : List ℕ) (a b : Lexed) → Lexes file text a → Lexes file text b → a ≡ b
-lexed_one file text (Read a) (Read b) e f = ap Read (both_read (source_of file text) a b (is_read file text a e) (is_read file text b f))
-lexed_one file text (Read a) (Faulty g) e f = absurd (read_or_refused (source_of file text) a g (is_read file text a e) (is_refused file text g f))
-lexed_one file text (Faulty f) (Read b) e h = absurd (read_or_refused (source_of file text) b f (is_read file text b h) (is_refused file text f e))
-lexed_one file text (Faulty f) (Faulty g) e h = ap Faulty (both_refused (source_of file text) f g (is_refused file text f e) (is_refused file text g h))
+lexed_one file text (Read a) (Read b) e f = ap Read (one_source file text a b e f)
+lexed_one file text (Read a) (Faulty g) e f = absurd (source_or_fault file text a g e f)
+lexed_one file text (Faulty f) (Read b) e h = absurd (source_or_fault file text b f h e)
+lexed_one file text (Faulty f) (Faulty g) e h = ap Faulty (one_first file text f g e h)
 
 -- tokens have trees or a first fault
 one_fault : (found : Grouping) (f g : Fault) → found ≡ Err f → found ≡ Err g → f ≡ g

@@ -2,12 +2,9 @@
 use Rattle.std.specs.Prelude.{ℕ, Bool, true, false, ◌&&◌, List, [], ◌∷◌, codes, Option, Some, None, if◌then◌else◌, option_and_then}
 use Rattle.std.specs.Str.{bytes_eq}
 use Rattle.dy_tree.specs.declared.token.Token.{Token}
-use Rattle.dy_fragment.specs.Words.{is_name, is_semicolon}
-use Rattle.dy_drafts.specs.Shapes.{reads}
+use Rattle.dy_tree.specs.Spelling.{is_word}
+use Rattle.dy_fragment.specs.Words.{is_semicolon}
 use Rattle.dy_lexer.specs.declared.source.Source.{Source}
-
-abbrev pub is_word : List ℕ → Token → Bool
-is_word text token = is_name token.kind && reads text token
 
 -- what follows this name
 abbrev pub behind_word : List ℕ → List Token → Option (List Token)

@@ -1,19 +1,11 @@
 //! The file that defines the library and its module, as it has to be today.
 
 ghost use Rattle.std.specs.Prelude.{◌≡◌, option_map, option_copied};
-ghost use Rattle.dy_judge.specs.Library.{is_word, behind_word, behind_semicolon, behind_define, behind_use, behind_end, behind_library, behind_module, are_definitions, is_library};
+ghost use Rattle.dy_judge.specs.Library.{behind_word, behind_semicolon, behind_define, behind_use, behind_end, behind_library, behind_module, are_definitions, is_library};
 
 use crate::pieces::is_semicolon;
-use dy_drafts::reads;
 use dy_lexer::Source;
-use dy_tree::{Token, TokenKind};
-
-/// Whether a token is this name.
-fn is_word(text: &[u8], token: &Token) -> bool
-    ensures { result ≡ is_word text.now token.now }
-{
-    matches!(token.kind, TokenKind::Name) && reads(text, token)
-}
+use dy_tree::Token;
 
 /// What follows this name.
 fn behind_word<'a>(text: &[u8], tokens: &'a [Token]) -> Option<&'a [Token]>
@@ -21,7 +13,7 @@ fn behind_word<'a>(text: &[u8], tokens: &'a [Token]) -> Option<&'a [Token]>
 {
     match tokens.split_first() {
         Some((token, rest)) => {
-            if is_word(text, token) {
+            if token.is_word(text) {
                 Some(rest)
             } else {
                 None

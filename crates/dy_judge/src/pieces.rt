@@ -7,8 +7,7 @@ ghost use Rattle.dy_read_forms.specs.Answers as parser;
 ghost use Rattle.dy_judge.specs.Pieces.{semicolon_of, seen_piece, place_of, pieces_of};
 
 use dy_base::Place;
-use dy_drafts::reads;
-use dy_tree::{Fragment, Token, TokenKind};
+use dy_tree::{Fragment, Token};
 use std::alloc::{AllocError, Global};
 
 /// What stands in front of a semicolon or of the end of a file.
@@ -23,7 +22,7 @@ pub(crate) struct Piece {
 pub(crate) fn is_semicolon(token: &Token) -> bool
     ensures { result ≡ is_semicolon token.now }
 {
-    matches!(token.kind, TokenKind::Punctuation) && reads(b";", token)
+    token.is_sign(b";")
 }
 
 /// Where a semicolon stands, if the fragment is one.

@@ -45,10 +45,10 @@ lid_reading text (Err refusals.Memory) e = tt
 abbrev lid_after : Opened → Placed
 lid_after o = placed 0 (lid_from o.head.name o.head.files o.head.fault)
 
-lid_is : (text : List ℕ) (l : Lid) → IsLid text l → lid_of text ≡ Ok l
+pub lid_is : (text : List ℕ) (l : Lid) → IsLid text l → lid_of text ≡ Ok l
 lid_is text l h = ap lid_after (header_is true text h.head h.at h.body h.header) ∙ rw h.values refl
 
-fault_is : (text : List ℕ) (f : Fault) → IsLidFault text f → lid_of text ≡ Err f
+pub fault_is : (text : List ℕ) (f : Fault) → IsLidFault text f → lid_of text ≡ Err f
 fault_is text f h = ap lid_after (header_is true text h.head h.at h.body h.header) ∙ rw (h.values, h.fault) refl
 
 pub lid_reads : (text : List ℕ) (r : Result Lid Refusal) (l : Lid) → Gives (λ x. x) r (lid_of text) → IsLid text l → Reads r l

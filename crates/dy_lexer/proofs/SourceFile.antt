@@ -75,7 +75,7 @@ sourced : (file : ℕ) (w : Result (List ℕ) ℕ) (t : Tokens) (s : Source) (pi
     → with_module file w (joined_after [] t) ≡ Ok s
 sourced file w t s pieces e f g = rw (e, f) (ap (λ (x : List Token). Ok (source s.«module» x)) (sym g))
 
-source_is : (file : ℕ) (text : List ℕ) (s : Source) → IsSource file text s → source_of file text ≡ Ok s
+pub source_is : (file : ℕ) (text : List ℕ) (s : Source) → IsSource file text s → source_of file text ≡ Ok s
 source_is file text s h =
     let same = header_is false text h.head h.at h.body h.header in
     let read = complete file (length h.body) h.at h.body h.pieces (omega arith) h.cut in
@@ -88,7 +88,7 @@ after_is file head at body f (inr h) =
     let read = complete_fault file (length body) at body f (omega arith) broken in
     rw (header, read) refl
 
-first_is : (file : ℕ) (text : List ℕ) (f : Fault) → IsFirst file text f → source_of file text ≡ Err f
+pub first_is : (file : ℕ) (text : List ℕ) (f : Fault) → IsFirst file text f → source_of file text ≡ Err f
 first_is file text f h = ap (source_after file) (header_is false text h.head h.at h.body h.header) ∙ after_is file h.head h.at h.body f h.first
 
 pub reads : (file : ℕ) (text : List ℕ) (r : Result Source Refusal) (s : Source) → Gives (λ x. x) r (source_of file text) → IsSource file text s → Reads r s

@@ -1,6 +1,6 @@
 -- Headers of source files and of LID files (DRM 2, "Dylan interchange format"; own in the parts that are marked so).
 use Rattle.std.specs.Prelude.{◌≡◌, ℕ, zero, suc, ◌+◌, ◌-◌, ◌<◌, ◌⊎◌, Bool, true, false, ◌&&◌, ◌||◌, ◌==◌, nat_le, nat_lt, if◌then◌else◌, List, [], ◌∷◌, ◌++◌, take, drop, length, codes, Option, Some, None}
-use Rattle.std.specs.List.{prefix_len}
+use Rattle.std.specs.List.{prefix_len, list_all}
 use Rattle.dy_base.specs.Folding.{folded}
 use Rattle.dy_lexer.specs.declared.header.Key.{Key}
 use Rattle.dy_lexer.specs.declared.header.Key.TheVariants as keys
@@ -69,6 +69,9 @@ trimmed bytes = take (kept 0 0 (drop (prefix_len is_blank bytes) bytes)) (drop (
 abbrev pub is_printable : List ℕ → Bool
 is_printable [] = true
 is_printable (b ∷ bs) = if nat_le 32 b && nat_le b 126 then is_printable bs else false
+
+abbrev pub are_printable : List (List ℕ) → Bool
+are_printable names = list_all is_printable names
 
 abbrev pub ends_dylan : List ℕ → Bool
 ends_dylan bytes = is_same (codes ".dylan") (drop (length bytes - 6) bytes)

@@ -1,10 +1,11 @@
 //! Reading whole files.
 
-ghost use Rattle.std.specs.Prelude.{◌≡◌, ◌+◌, ◌<◌, ◌^◌, length, ℕ};
+ghost use Rattle.std.specs.Prelude.{◌≡◌, ◌+◌, ◌<◌, ◌^◌, length, ℕ, IfOk, IsTrue};
 ghost use Rattle.dy_base.specs.declared.fault.Fault.{Fault};
 ghost use Rattle.dy_lexer.specs.declared.source.Source.{Source};
 ghost use Rattle.dy_lexer.specs.declared.source.Lid.{Lid};
 ghost use Rattle.dy_lexer.specs.Tokens.{Gives};
+ghost use Rattle.dy_lexer.specs.Headers.{are_printable};
 ghost use Rattle.dy_lexer.specs.Sources as sources;
 ghost use Rattle.dy_lexer.specs.Sources.{wanted, placed, lid_from, lid_of, source_of, IsSource, IsFirst, IsReading, IsLid, IsLidFault, IsLidReading, Reads, Refuses};
 
@@ -118,6 +119,8 @@ pub fn read_lid(alloc: Global, bytes: &[u8]) -> Result<Lid, Refusal>
     ensures lid { (lid : Lid) → IsLid bytes.now lid → Reads result lid }
     // What has a fault is refused, with this one.
     ensures fault { (f : Fault) → IsLidFault bytes.now f → Refuses result f }
+    // Each file that is read from it has a name of printable bytes of ASCII.
+    ensures names { IfOk result (λ lid. IsTrue (are_printable lid.files)) }
 {
     read_lid_file(alloc, bytes)
 }

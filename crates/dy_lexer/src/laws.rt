@@ -1,6 +1,6 @@
 //! Laws of the tokens of texts.
 
-ghost use Rattle.std.specs.Prelude.{◌≡◌, ◌↔◌, ℕ, ◌≤◌, ◌++◌, ◌==◌, Bool, false, List, length, Ok, Err, Some};
+ghost use Rattle.std.specs.Prelude.{◌≡◌, ◌↔◌, ℕ, ◌≤◌, ◌++◌, ◌==◌, Bool, true, false, List, length, Ok, Err, Some};
 ghost use Rattle.dy_base.specs.declared.fault.Fault.{Fault};
 ghost use Rattle.dy_tree.specs.declared.token.Token.{Token};
 ghost use Rattle.dy_lexer.specs.declared.class.Piece.{Piece};
@@ -11,6 +11,10 @@ ghost use Rattle.dy_lexer.specs.Enclosed.{Literal, Comment};
 ghost use Rattle.dy_lexer.specs.Forms.{Begins};
 ghost use Rattle.dy_lexer.specs.Tokens.{tokens_of};
 ghost use Rattle.dy_lexer.specs.Cut.{Cut, Broken, Judged};
+ghost use Rattle.dy_lexer.specs.Headers.{Opened, IsHeader, are_printable};
+ghost use Rattle.dy_lexer.specs.Sources.{IsSource, IsFirst, IsLid, IsLidFault};
+ghost use Rattle.dy_lexer.specs.declared.source.Source.{Source};
+ghost use Rattle.dy_lexer.specs.declared.source.Lid.{Lid};
 
 /// What holds of the tokens of every text.
 pub fn token_laws()
@@ -34,4 +38,16 @@ pub fn token_laws()
     ensures literals { (quote : ℕ) → (quote == 10) ≡ false → (92 == quote) ≡ false → (body : List ℕ) → (literal_end quote false body ≡ Some (length body)) ↔ Literal quote body }
     // A block comment ends with the mark that closes it.
     ensures comments { (body : List ℕ) → (comment_end 1 0 body ≡ Some (length body)) ↔ Comment 1 body }
+    // No file has two headers.
+    ensures one_header { (lid : Bool) (text : List ℕ) (a b : Opened) → IsHeader lid text a.head a.at a.body → IsHeader lid text b.head b.at b.body → a ≡ b }
+    // No source file says two things, has two first faults, or both.
+    ensures one_source { (file : ℕ) (text : List ℕ) (a b : Source) → IsSource file text a → IsSource file text b → a ≡ b }
+    ensures one_source_fault { (file : ℕ) (text : List ℕ) (f g : Fault) → IsFirst file text f → IsFirst file text g → f ≡ g }
+    ensures source_apart { (file : ℕ) (text : List ℕ) (s : Source) (f : Fault) → IsSource file text s → IsFirst file text f → ⊥ }
+    // The same of LID files.
+    ensures one_lid { (text : List ℕ) (a b : Lid) → IsLid text a → IsLid text b → a ≡ b }
+    ensures one_lid_fault { (text : List ℕ) (f g : Fault) → IsLidFault text f → IsLidFault text g → f ≡ g }
+    ensures lid_apart { (text : List ℕ) (l : Lid) (f : Fault) → IsLid text l → IsLidFault text f → ⊥ }
+    // Each file that a LID file names has a name of printable bytes of ASCII.
+    ensures file_names { (text : List ℕ) (l : Lid) → IsLid text l → are_printable l.files ≡ true }
 {}

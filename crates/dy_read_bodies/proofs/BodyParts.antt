@@ -9,7 +9,6 @@ use Rattle.dy_rules.specs.Bodies.{local_of, method_tree_of, nonempty_body, item_
 use Rattle.dy_rules.specs.Cutting.{Item, NamedFound, is_semicolon, without_end}
 use Rattle.dy_rules.specs.Depth.{body_depth, item_depth, method_depth, methods_depth}
 use Rattle.dy_rules.specs.Fragments.{items_of}
-use Rattle.dy_rules.specs.Roles.{Splitting}
 use Rattle.dy_rules.specs.Trees.{Tree, ItemTree, expression_item, local_item, Parameters, LocalMethods, LocalMethod, local_method, body_of, methods_of, parameters_of}
 use Rattle.dy_rules.specs.Types.{TypeTree, TargetTree}
 use Rattle.dy_rules_depth.specs.Changes.{changed_target, changed_parameters, changed_item, changed_method}
@@ -23,6 +22,7 @@ use Rattle.dy_read_statements.specs.ReadMethods.{NamedParts, capped_named, named
 use Rattle.dy_read_parts.proofs.PieceRows.{nothing_before}
 use Rattle.dy_read_statements.specs.declared.method_read.NamedRead.{NamedRead}
 use Rattle.std.specs.Global.{Vec}
+use Rattle.dy_tree.specs.declared.splitters.Splitting.{Splitting}
 
 -- bindings
 

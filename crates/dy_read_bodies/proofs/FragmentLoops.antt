@@ -4,10 +4,12 @@ use Rattle.std.proofs.lemmas.List.{drop_more, drop_all}
 use Rattle.dy_tree.specs.declared.fragment.Fragment.{Fragment}
 use Rattle.dy_tree.specs.declared.token.Token.{Token}
 use Rattle.dy_tree.specs.Fragments.{SeenFragment, one, group, SeenFragments, row, pack, seen_fragment, seen_fragments}
+use Rattle.dy_tree.specs.declared.brackets.Bracket.{Bracket}
+use Rattle.dy_tree.specs.declared.splitters.Splitting.{Splitting}
 use Rattle.dy_rules.specs.Arguments.{begins_value}
 use Rattle.dy_rules.specs.Cutting.{Item}
 use Rattle.dy_rules.specs.Fragments.{item_of, items_of, items_in, nothing_found, found_of, tree_inside}
-use Rattle.dy_rules.specs.Roles.{Splitting, Bracket, bracket_of}
+use Rattle.dy_rules.specs.Roles.{bracket_of}
 use Rattle.dy_rules.specs.Reading.{State, at_group, after_item, after_all, Passing, after_argument, after_passing, passed_items}
 use Rattle.dy_rules_depth.specs.Capping.{capping}
 use Rattle.dy_rules_depth.specs.ReaderChanges.{changed_state, changed_passing}

@@ -2,9 +2,12 @@
 use Rattle.std.proofs.Common.{◌≡◌, List, [], ◌∷◌, map, Option, Some, None, option_map, option_and_then, refl, sym, ap, ◌∙◌}
 use Rattle.dy_tree.specs.declared.token.Token.{Token}
 use Rattle.dy_tree.specs.Fragments.{SeenFragment, one, group}
+use Rattle.dy_tree.specs.declared.roles.Role.{Role}
+use Rattle.dy_tree.specs.declared.roles.Role.TheVariants as roles
+use Rattle.dy_tree.specs.declared.splitters.Splitting.TheVariants as splittings
 use Rattle.dy_rules.specs.Bodies.{body_items}
 use Rattle.dy_rules.specs.Cutting.{Item, Front, MethodFound, NamedFound, headed}
-use Rattle.dy_rules.specs.Roles.{Role, named, role_of, nothing}
+use Rattle.dy_rules.specs.Roles.{role_of}
 use Rattle.dy_rules.specs.Signatures as signatures
 use Rattle.dy_rules.specs.Signatures.{ResultsFront, results_front, without_front, method_of, method_with, method_listed, method_front, method_items, named_of, named_with, named_items}
 use Rattle.dy_rules.specs.Trees.{ItemTree, Listed}
@@ -19,7 +22,7 @@ use Rattle.dy_read_bodies.specs.SignatureFronts.{Signature, signature_of, signat
 
 -- the body behind parameters and results
 abbrev trees_behind : List Item → Option (List ItemTree)
-trees_behind rest = option_map (map (changed_item capping)) (body_items nothing (without_front rest))
+trees_behind rest = option_map (map (changed_item capping)) (body_items splittings.Nothing (without_front rest))
 
 abbrev parts_behind : Signature → Option MethodParts
 parts_behind front = option_map (with_trees front.parts) (trees_behind front.rest)
@@ -34,7 +37,7 @@ with_body found results (Some trees) = refl
 
 with_results : (found : Listed) (results : Option ResultsFront) → capped_method (option_and_then (method_with found) results) ≡ option_and_then parts_behind (option_map capped_signature (option_map (signature_of found) results))
 with_results found None = refl
-with_results found (Some results) = with_body found results (body_items nothing (without_front results.rest))
+with_results found (Some results) = with_body found results (body_items splittings.Nothing (without_front results.rest))
 
 with_listed : (rest : List Item) (found : Option Listed) → capped_method (option_and_then (method_listed rest) found) ≡ option_and_then parts_behind (option_map capped_signature (option_and_then (signature_listed rest) found))
 with_listed rest None = refl
@@ -49,7 +52,7 @@ method_is items = go (headed items)
 
 -- a body behind the parameters that were read
 pub method_read : (front : Signature) (items : List Item) → Some front ≡ option_map capped_signature (signature_items items)
-    → option_map (with_trees front.parts) (option_map (map (changed_item capping)) (body_items nothing (without_front front.rest))) ≡ option_map capped_parts (option_map parts_of (method_items items))
+    → option_map (with_trees front.parts) (option_map (map (changed_item capping)) (body_items splittings.Nothing (without_front front.rest))) ≡ option_map capped_parts (option_map parts_of (method_items items))
 method_read front items e = ap (option_and_then parts_behind) e ∙ sym (method_is items)
 
 pub method_fails : (items : List Item) → None ≡ option_map capped_signature (signature_items items) → None ≡ option_map capped_parts (option_map parts_of (method_items items))
@@ -58,7 +61,7 @@ method_fails items e = ap (option_and_then parts_behind) e ∙ sym (method_is it
 -- a name in front
 
 name_is : (role : Role) (token : Token) (rest : List Item) → named_with role token rest ≡ named_by (named_token role token) rest
-name_is named token rest = refl
+name_is roles.Named token rest = refl
 name_is role token rest = refl
 
 pub name_reads : (first : SeenFragment) (rest : List Item) → signatures.named_at first rest ≡ named_by (name_at first) rest

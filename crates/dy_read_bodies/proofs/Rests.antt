@@ -3,12 +3,18 @@ use Rattle.std.proofs.Common.{◌≡◌, ◌≤◌, ℕ, max, Bool, true, false,
 use Rattle.std.specs.Bool.{⊤}
 use Rattle.dy_tree.specs.declared.token.Token.{Token}
 use Rattle.dy_tree.specs.Fragments.{SeenFragment, one, group, SeenFragments, no_fragment, fragment_and, seen_fragments}
-use Rattle.dy_rules.specs.Roles.{Role, named, role_of, Bracket, round, bracket_of}
+use Rattle.dy_tree.specs.declared.roles.Role.{Role}
+use Rattle.dy_tree.specs.declared.roles.Role.TheVariants as roles
+use Rattle.dy_tree.specs.declared.brackets.Bracket.{Bracket}
+use Rattle.dy_tree.specs.declared.brackets.Bracket.TheVariants as brackets
+use Rattle.dy_tree.specs.declared.type_words.TypeWord.{TypeWord}
+use Rattle.dy_tree.specs.declared.type_words.TypeWord.TheVariants as type_words
+use Rattle.dy_rules.specs.Roles.{role_of, bracket_of}
 use Rattle.dy_rules.specs.Cutting.{Found, Item, fragments_in, is_arrow}
 use Rattle.dy_rules.specs.Fragments.{items_of}
 use Rattle.dy_rules.specs.Signatures as signatures
 use Rattle.dy_rules.specs.Signatures.{results_in_front, several_given, given_in, variable_result, results_at, results_behind, results_if, results_front}
-use Rattle.dy_rules.specs.Types.{TypeTree, ResultTree, TypeWord, singleton_word, union_word, limited_word, no_type_word, type_word}
+use Rattle.dy_rules.specs.Types.{TypeTree, ResultTree, type_word}
 use Rattle.dy_rules.specs.TypeReading.{TypeFront, in_front, form_type, word_front, group_front, front_behind, type_from, type_named, type_at, type_front, VariableFront, typed_front, is_colons, variable_if, variable_from, variable_named, variable_at, variable_front}
 use Rattle.dy_rules.proofs.Lists.{some_one, fragments_back}
 use Rattle.dy_read_types.specs.declared.variables.VariableFront.{VariableFront as ReadVariable}
@@ -31,13 +37,13 @@ in_front_within n rest None h = tt
 in_front_within n rest (Some type) h = h
 
 by_word : (n : ℕ) (form : TypeWord) (word : Token) (inner : SeenFragments) (item : Item) (rest : List Item) → Within n (item ∷ rest) → TypeWithin n (word_front form word inner item rest)
-by_word n no_type_word word inner item rest h = h
-by_word n singleton_word word inner item rest h = in_front_within n rest (form_type singleton_word word inner item.found) (omega arith)
-by_word n union_word word inner item rest h = in_front_within n rest (form_type union_word word inner item.found) (omega arith)
-by_word n limited_word word inner item rest h = in_front_within n rest (form_type limited_word word inner item.found) (omega arith)
+by_word n type_words.Absent word inner item rest h = h
+by_word n type_words.Singleton word inner item rest h = in_front_within n rest (form_type type_words.Singleton word inner item.found) (omega arith)
+by_word n type_words.Union word inner item rest h = in_front_within n rest (form_type type_words.Union word inner item.found) (omega arith)
+by_word n type_words.Limited word inner item rest h = in_front_within n rest (form_type type_words.Limited word inner item.found) (omega arith)
 
 by_bracket : (n : ℕ) (bracket : Bracket) (word : Token) (inner : SeenFragments) (item : Item) (rest : List Item) → Within n (item ∷ rest) → TypeWithin n (group_front bracket word inner item rest)
-by_bracket n round word inner item rest h = by_word n (type_word word) word inner item rest h
+by_bracket n brackets.Round word inner item rest h = by_word n (type_word word) word inner item rest h
 by_bracket n bracket word inner item rest h = h
 
 behind_within : (n : ℕ) (word : Token) (fragment : SeenFragment) (item : Item) (rest : List Item) → Within n (item ∷ rest) → TypeWithin n (front_behind word fragment item rest)
@@ -49,7 +55,7 @@ type_from_within n word [] h = h
 type_from_within n word (item ∷ rest) h = behind_within n word item.fragment item rest h
 
 type_named_within : (n : ℕ) (role : Role) (word : Token) (items : List Item) → Within n items → TypeWithin n (type_named role word items)
-type_named_within n named word items h = type_from_within n word items h
+type_named_within n roles.Named word items h = type_from_within n word items h
 type_named_within n role word items h = tt
 
 type_at_within : (n : ℕ) (fragment : SeenFragment) (rest : List Item) → Within n rest → TypeWithin n (type_at fragment rest)
@@ -79,7 +85,7 @@ variable_from_within n token [] h = h
 variable_from_within n token (item ∷ rest) h = variable_if_within n (is_colons item.fragment) token item rest h
 
 variable_named_within : (n : ℕ) (role : Role) (token : Token) (items : List Item) → Within n items → VariableWithin n (variable_named role token items)
-variable_named_within n named token items h = variable_from_within n token items h
+variable_named_within n roles.Named token items h = variable_from_within n token items h
 variable_named_within n role token items h = tt
 
 variable_at_within : (n : ℕ) (fragment : SeenFragment) (rest : List Item) → Within n rest → VariableWithin n (variable_at fragment rest)
@@ -118,8 +124,8 @@ given_within n rest None h = tt
 given_within n rest (Some given) h = h
 
 given_in_within : (n : ℕ) (bracket : Bracket) (inner : SeenFragments) (found : Found) (rest : List Item) → Within n rest → ResultsWithin n (given_in bracket inner found rest)
-given_in_within n round no_fragment found rest h = h
-given_in_within n round (fragment_and first others) found rest h = given_within n rest (option_map several_given found.given) h
+given_in_within n brackets.Round no_fragment found rest h = h
+given_in_within n brackets.Round (fragment_and first others) found rest h = given_within n rest (option_map several_given found.given) h
 given_in_within n bracket inner found rest h = tt
 
 one_within : (n : ℕ) (found : Option VariableFront) → VariableWithin n found → ResultsWithin n (option_map variable_result found)

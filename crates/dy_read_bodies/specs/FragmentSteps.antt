@@ -1,9 +1,10 @@
 -- How a part is taken in, by the reader of an expression and by that of arguments.
 use Rattle.std.specs.Prelude.{Bool, Option}
 use Rattle.dy_tree.specs.Fragments.{pack}
+use Rattle.dy_tree.specs.declared.splitters.Splitting.{Splitting}
 use Rattle.dy_rules.specs.Fragments.{items_of, tree_inside}
 use Rattle.dy_rules.specs.Reading.{State, at_token, at_group, Passing, passed_items}
-use Rattle.dy_rules.specs.Roles.{Splitting, role_of}
+use Rattle.dy_rules.specs.Roles.{role_of}
 use Rattle.dy_read_parts.specs.FragmentParts.{SeenPart, token_part, group_part}
 use Rattle.dy_read_operators.specs.PassingSteps.{ahead, after_token, value_group}
 

@@ -2,9 +2,9 @@
 
 ghost use Rattle.std.specs.Prelude.{◌≡◌, ℕ, Some, IfOk, option_map};
 ghost use Rattle.dy_tree.specs.Fragments.{seen_fragments};
+ghost use Rattle.dy_tree.specs.declared.brackets.Keyword.TheVariants as keywords;
 ghost use Rattle.dy_rules.specs.Choices as choices;
 ghost use Rattle.dy_rules.specs.Fragments.{items_of};
-ghost use Rattle.dy_rules.specs.Roles.{case_word, select_word};
 ghost use Rattle.dy_rules.specs.StatementReading.{statement_items};
 ghost use Rattle.dy_rules_depth.specs.Capping.{capped, capping};
 ghost use Rattle.dy_rules_depth.specs.ReaderChanges.{changed_choices, changed_head};
@@ -31,8 +31,7 @@ use dy_read_statements::arm_parts::{
 use dy_read_statements::choices::{Choices, ChoicesBehind};
 use dy_read_statements::head::{Head, HeadShape, alone, by_test, head_shape};
 use dy_read_types::depth::deepest;
-use dy_read_words::splitter::Splitting;
-use dy_tree::{Expression, Fragment, Item, Token};
+use dy_tree::{Expression, Fragment, Item, Splitting, Token};
 use std::alloc::{AllocError, Global};
 
 /// The tests of an arm, with commas between them.
@@ -178,7 +177,7 @@ fn head(alloc: Global, fragments: &[Fragment]) -> Result<Option<Head>, AllocErro
 /// `case`
 #[cycle(read)]
 pub fn case(alloc: Global, word: &Token, inner: &[Fragment]) -> Result<Option<Grown>, AllocError>
-    ensures { IfOk result (λ found. option_map read_grown found ≡ option_map capped (statement_items case_word word.now (items_of (seen_fragments inner.now)))) }
+    ensures { IfOk result (λ found. option_map read_grown found ≡ option_map capped (statement_items keywords.Case word.now (items_of (seen_fragments inner.now)))) }
 {
     case_with(alloc, word, arms(alloc, true, inner)?)
 }
@@ -186,7 +185,7 @@ pub fn case(alloc: Global, word: &Token, inner: &[Fragment]) -> Result<Option<Gr
 /// `select`
 #[cycle(read)]
 pub fn select(alloc: Global, word: &Token, inner: &[Fragment]) -> Result<Option<Grown>, AllocError>
-    ensures { IfOk result (λ found. option_map read_grown found ≡ option_map capped (statement_items select_word word.now (items_of (seen_fragments inner.now)))) }
+    ensures { IfOk result (λ found. option_map read_grown found ≡ option_map capped (statement_items keywords.Select word.now (items_of (seen_fragments inner.now)))) }
 {
     match headed(inner) {
         None => Ok(None),

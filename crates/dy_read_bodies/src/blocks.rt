@@ -2,14 +2,14 @@
 
 ghost use Rattle.std.specs.Prelude.{◌≡◌, max, IfOk, map, option_and_then, option_map};
 ghost use Rattle.dy_tree.specs.Fragments.{seen_fragments};
+ghost use Rattle.dy_tree.specs.declared.splitters.Splitting.TheVariants as splittings;
 ghost use Rattle.dy_rules.specs.Blocks as spec;
 ghost use Rattle.dy_rules.specs.Bodies.{body_items};
 ghost use Rattle.dy_rules.specs.Cutting as cutting;
 ghost use Rattle.dy_rules.specs.Cutting.{is_splitter};
 ghost use Rattle.dy_rules.specs.Depth as measure;
 ghost use Rattle.dy_rules.specs.Fragments.{items_of};
-ghost use Rattle.dy_rules.specs.Roles.{endings};
-ghost use Rattle.dy_rules.specs.SeenForms.{seen_clause, seen_item, seen_tree};
+ghost use Rattle.dy_rules.specs.SeenForms.{seen_clause, seen_item, seen_statement};
 ghost use Rattle.dy_rules.specs.SeenTypes.{seen_type};
 ghost use Rattle.dy_rules.specs.Trees as trees;
 ghost use Rattle.dy_rules_depth.specs.Changes.{changed_clause};
@@ -20,7 +20,6 @@ ghost use Rattle.dy_read_parts.specs.Front.{seen_front};
 ghost use Rattle.dy_read_operators.specs.Grown.{read_grown};
 ghost use Rattle.dy_read_parts.specs.Pieces.{others_in};
 ghost use Rattle.dy_read_statements.specs.ReadBodies.{read_clause, read_clauses, read_items};
-ghost use Rattle.dy_read_words.specs.Seen.{seen_splitter};
 
 use crate::bodies::body;
 use dy_read_operators::grown::Grown;
@@ -33,8 +32,7 @@ use dy_read_statements::caught::{Caught, caught_items};
 use dy_read_statements::statement_nodes::statement_within;
 use dy_read_statements::suits::suit_block;
 use dy_read_types::depth::deepest;
-use dy_read_words::splitter::{Splitter, Splitting};
-use dy_tree::{BlockClause, Expression, Fragment, Item, Token, TypeForm};
+use dy_tree::{BlockClause, Fragment, Item, Splitter, Splitting, Statement, Token, TypeForm};
 use std::alloc::{AllocError, Global};
 
 fn afterwards_of(body: Vec<Item>) -> BlockClause
@@ -64,10 +62,10 @@ fn block_tree(
     exit: Option<Token>,
     body: Vec<Item>,
     clauses: Vec<BlockClause>,
-) -> Expression
-    ensures { seen_tree result ≡ trees.block_tree word exit (trees.body_of (map seen_item body.items)) (trees.block_clauses_of (map seen_clause clauses.items)) }
+) -> Statement
+    ensures { seen_statement result ≡ trees.block_tree word exit (trees.body_of (map seen_item body.items)) (trees.block_clauses_of (map seen_clause clauses.items)) }
 {
-    Expression::Block {
+    Statement::Block {
         word,
         exit,
         body,
@@ -157,7 +155,7 @@ fn exception_at(
     fragments: &[Fragment],
     depth: &mut usize,
 ) -> Result<Option<BlockClause>, AllocError>
-    ensures found { IfOk result (λ found. option_map read_clause found ≡ option_map (changed_clause capping) (clause_read (spec.caught_items (items_of (seen_fragments condition.now))) (body_items endings (items_of (seen_fragments fragments.now))))) }
+    ensures found { IfOk result (λ found. option_map read_clause found ≡ option_map (changed_clause capping) (clause_read (spec.caught_items (items_of (seen_fragments condition.now))) (body_items splittings.Endings (items_of (seen_fragments fragments.now))))) }
     ensures depth { IfOk result (λ found. ClauseDepth depth.old depth.new found) }
 {
     let catches = caught_items(alloc, condition, depth)?;
@@ -189,7 +187,7 @@ fn block_clause(
     fragments: &[Fragment],
     depth: &mut usize,
 ) -> Result<Option<BlockClause>, AllocError>
-    ensures found { IfOk result (λ found. option_map read_clause found ≡ option_map (changed_clause capping) (spec.block_clause_at (seen_splitter word) (items_of (seen_fragments fragments.now)))) }
+    ensures found { IfOk result (λ found. option_map read_clause found ≡ option_map (changed_clause capping) (spec.block_clause_at word (items_of (seen_fragments fragments.now)))) }
     ensures depth { IfOk result (λ found. ClauseDepth depth.old depth.new found) }
 {
     match word {
@@ -213,7 +211,7 @@ fn block_clauses(
     fragments: &[Fragment],
     depth: &mut usize,
 ) -> Result<Option<Vec<BlockClause>>, AllocError>
-    ensures found { IfOk result (λ found. option_map read_clauses found ≡ option_map (map (changed_clause capping)) (spec.block_clauses_in (others_in (is_splitter endings) (seen_fragments fragments.now)))) }
+    ensures found { IfOk result (λ found. option_map read_clauses found ≡ option_map (map (changed_clause capping)) (spec.block_clauses_in (others_in (is_splitter splittings.Endings) (seen_fragments fragments.now)))) }
     ensures depth { IfOk result (λ found. ClausesDepth depth.old depth.new found) }
 {
     let mut clauses = Vec::new(alloc);

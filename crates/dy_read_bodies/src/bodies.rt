@@ -19,7 +19,6 @@ ghost use Rattle.dy_read_parts.specs.Nesting.{nesting};
 ghost use Rattle.dy_read_parts.specs.Pieces.{seen_slice, IsWithin, unless_empty};
 ghost use Rattle.dy_read_statements.specs.ReadBodies.{read_item, read_items, read_method, read_methods, read_target};
 ghost use Rattle.dy_read_statements.specs.ReadMethods.{read_named, method_of_parts, NamedDepth};
-ghost use Rattle.dy_read_words.specs.Seen.{seen_splitting};
 ghost use Rattle.dy_read_types.specs.TypeCaps.{read_type};
 ghost use Rattle.dy_read_types.specs.TypeFronts.{TypeDepth};
 
@@ -34,8 +33,9 @@ use dy_read_statements::method_read::NamedRead;
 use dy_read_types::depth::{deepen, deepest};
 use dy_read_types::targets::target_items;
 use dy_read_types::types::type_items;
-use dy_read_words::splitter::Splitting;
-use dy_tree::{Expression, Fragment, Item, LocalMethod, Parameters, Target, Token, TypeForm};
+use dy_tree::{
+    Expression, Fragment, Item, LocalMethod, Parameters, Splitting, Target, Token, TypeForm,
+};
 use std::alloc::{AllocError, Global};
 
 fn let_of(word: Token, target: Target, value: Expression) -> Item
@@ -212,7 +212,7 @@ fn let_sides(
     after: &[Fragment],
     depth: &mut usize,
 ) -> Result<Option<Item>, AllocError>
-    ensures found { IfOk result (λ found. option_map read_item found ≡ option_map (changed_item capping) (let_read word.now (target_items (items_of (seen_fragments before.now))) (expression_items (seen_splitting words) (items_of (seen_fragments after.now))))) }
+    ensures found { IfOk result (λ found. option_map read_item found ≡ option_map (changed_item capping) (let_read word.now (target_items (items_of (seen_fragments before.now))) (expression_items words (items_of (seen_fragments after.now))))) }
     ensures depth { IfOk result (λ found. ItemDepth depth.old depth.new found) }
 {
     let mut inside = 0;
@@ -235,7 +235,7 @@ fn handler_sides(
     after: &[Fragment],
     depth: &mut usize,
 ) -> Result<Option<Item>, AllocError>
-    ensures found { IfOk result (λ found. option_map read_item found ≡ option_map (changed_item capping) (handler_read word.now (type_items (items_of (seen_fragments before.now))) (expression_items (seen_splitting words) (items_of (seen_fragments after.now))))) }
+    ensures found { IfOk result (λ found. option_map read_item found ≡ option_map (changed_item capping) (handler_read word.now (type_items (items_of (seen_fragments before.now))) (expression_items words (items_of (seen_fragments after.now))))) }
     ensures depth { IfOk result (λ found. ItemDepth depth.old depth.new found) }
 {
     let mut inside = 0;
@@ -313,7 +313,7 @@ pub fn item(
     fragments: &[Fragment],
     depth: &mut usize,
 ) -> Result<Option<Item>, AllocError>
-    ensures found { IfOk result (λ found. option_map read_item found ≡ option_map (changed_item capping) (spec.item_items (seen_splitting words) (items_of (seen_fragments fragments.now)))) }
+    ensures found { IfOk result (λ found. option_map read_item found ≡ option_map (changed_item capping) (spec.item_items words (items_of (seen_fragments fragments.now)))) }
     ensures depth { IfOk result (λ found. ItemDepth depth.old depth.new found) }
 {
     match item_shape(words, fragments) {
@@ -341,7 +341,7 @@ pub fn body(
     fragments: &[Fragment],
     depth: &mut usize,
 ) -> Result<Option<Vec<Item>>, AllocError>
-    ensures found { IfOk result (λ found. option_map read_items found ≡ option_map (map (changed_item capping)) (spec.body_items (seen_splitting words) (items_of (seen_fragments fragments.now)))) }
+    ensures found { IfOk result (λ found. option_map read_items found ≡ option_map (map (changed_item capping)) (spec.body_items words (items_of (seen_fragments fragments.now)))) }
     ensures depth { IfOk result (λ found. BodyDepth depth.old depth.new found) }
 {
     let mut items = Vec::new(alloc);

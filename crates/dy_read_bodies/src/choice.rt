@@ -2,9 +2,9 @@
 
 ghost use Rattle.std.specs.Prelude.{◌≡◌, IfOk, map, option_map};
 ghost use Rattle.dy_tree.specs.Fragments.{seen_fragments};
+ghost use Rattle.dy_tree.specs.declared.brackets.Keyword.TheVariants as keywords;
 ghost use Rattle.dy_rules.specs.Depth as measure;
 ghost use Rattle.dy_rules.specs.Fragments.{items_of};
-ghost use Rattle.dy_rules.specs.Roles.{if_word};
 ghost use Rattle.dy_rules.specs.StatementReading.{statement_items};
 ghost use Rattle.dy_rules.specs.Trees as trees;
 ghost use Rattle.dy_rules_depth.specs.Capping.{capped};
@@ -26,8 +26,7 @@ use dy_read_statements::others::Others;
 use dy_read_statements::statement_nodes::{if_tree, statement_within};
 use dy_read_statements::tested::tested;
 use dy_read_types::depth::deepest;
-use dy_read_words::splitter::Splitting;
-use dy_tree::{Alternative, Fragment, Item, Token};
+use dy_tree::{Alternative, Fragment, Item, Splitting, Token};
 use std::alloc::{AllocError, Global};
 
 /// An alternative, which is `inside` deep but for its test.
@@ -182,7 +181,7 @@ pub fn if_statement(
     word: &Token,
     inner: &[Fragment],
 ) -> Result<Option<Grown>, AllocError>
-    ensures { IfOk result (λ found. option_map read_grown found ≡ option_map capped (statement_items if_word word.now (items_of (seen_fragments inner.now)))) }
+    ensures { IfOk result (λ found. option_map read_grown found ≡ option_map capped (statement_items keywords.If word.now (items_of (seen_fragments inner.now)))) }
 {
     match tested(inner) {
         None => Ok(None),

@@ -25,8 +25,7 @@ use dy_read_statements::loop_head::{
     ForHead, LastShape, empty_head, last_shape, with_clause, with_stop,
 };
 use dy_read_types::division::divide;
-use dy_read_words::splitter::Splitting;
-use dy_tree::{ForClause, Fragment, Variable};
+use dy_tree::{ForClause, Fragment, Splitting, Variable};
 use std::alloc::{AllocError, Global};
 
 /// A step, or nothing.

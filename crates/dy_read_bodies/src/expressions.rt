@@ -11,7 +11,6 @@ ghost use Rattle.dy_read_operators.specs.Grown.{read_grown};
 ghost use Rattle.dy_read_operators.specs.Machines.{seen_machine, passed_if, tree_if};
 ghost use Rattle.dy_read_operators.specs.Passed.{read_passed};
 ghost use Rattle.dy_read_operators.specs.Passings.{seen_passing};
-ghost use Rattle.dy_read_words.specs.Seen.{seen_bracket, seen_splitting};
 
 use crate::statement::inside;
 use dy_read_operators::grown::Grown;
@@ -20,9 +19,7 @@ use dy_read_operators::passing::Passing;
 use dy_read_operators::state::{Machine, Need};
 use dy_read_parts::part::{Part, part_of};
 use dy_read_parts::value::begins_value;
-use dy_read_words::bracket::Bracket;
-use dy_read_words::splitter::Splitting;
-use dy_tree::{Fragment, Token};
+use dy_tree::{Bracket, Fragment, Splitting, Token};
 use std::alloc::{AllocError, Global};
 
 /// What was read inside of a group, as far as it is looked at.
@@ -41,7 +38,7 @@ fn within(
     opener: &Token,
     inner: &[Fragment],
 ) -> Result<InsideRead, AllocError>
-    ensures tree { IfOk result (λ found. option_map read_grown found.tree ≡ option_map capped (tree_if need (tree_inside (seen_bracket bracket) opener.now (pack (seen_fragments inner.now)) (items_of (seen_fragments inner.now))))) }
+    ensures tree { IfOk result (λ found. option_map read_grown found.tree ≡ option_map capped (tree_if need (tree_inside bracket opener.now (pack (seen_fragments inner.now)) (items_of (seen_fragments inner.now))))) }
     ensures passed { IfOk result (λ found. option_map read_passed found.passed ≡ option_map (map (changed_argument capping)) (passed_if need (reading.passed_items (items_of (seen_fragments inner.now))))) }
 {
     match need {
@@ -68,7 +65,7 @@ fn after_fragment(
     machine: Machine,
     fragment: &Fragment,
 ) -> Result<Option<Machine>, AllocError>
-    ensures { IfOk result (λ next. option_map seen_machine next ≡ option_map (changed_state capping) (reading.after_item (seen_splitting words) (seen_machine machine) (item_of (seen_fragment fragment.now)))) }
+    ensures { IfOk result (λ next. option_map seen_machine next ≡ option_map (changed_state capping) (reading.after_item words (seen_machine machine) (item_of (seen_fragment fragment.now)))) }
 {
     match part_of(fragment) {
         Part::One(token) => machine.token(alloc, words, token),
@@ -91,7 +88,7 @@ pub fn expression(
     words: Splitting,
     fragments: &[Fragment],
 ) -> Result<Option<Grown>, AllocError>
-    ensures { IfOk result (λ found. option_map read_grown found ≡ option_map capped (reading.expression_items (seen_splitting words) (items_of (seen_fragments fragments.now)))) }
+    ensures { IfOk result (λ found. option_map read_grown found ≡ option_map capped (reading.expression_items words (items_of (seen_fragments fragments.now)))) }
 {
     let mut machine = Machine::new(alloc);
     for fragment in fragments {

@@ -2,10 +2,11 @@
 
 ghost use Rattle.std.specs.Prelude.{◌≡◌, false, IfOk, option_map};
 ghost use Rattle.dy_tree.specs.Fragments.{seen_fragments};
+ghost use Rattle.dy_tree.specs.declared.brackets.Keyword.TheVariants as keywords;
+ghost use Rattle.dy_tree.specs.declared.splitters.Splitting.TheVariants as splittings;
 ghost use Rattle.dy_rules.specs.Cutting as cutting;
 ghost use Rattle.dy_rules.specs.Fragments.{items_of};
 ghost use Rattle.dy_rules.specs.Loops as loops;
-ghost use Rattle.dy_rules.specs.Roles as roles;
 ghost use Rattle.dy_rules.specs.StatementReading as statements;
 ghost use Rattle.dy_rules_depth.specs.Capping.{capped};
 ghost use Rattle.dy_read_operators.specs.Grown.{read_grown};
@@ -20,8 +21,7 @@ use dy_read_parts::pieces::cut;
 use dy_read_parts::separator::Separator;
 use dy_read_shapes::loop_shape::{LastPiece, finally_piece};
 use dy_read_statements::loop_nodes::{Finally, finally_of, for_node, no_finally};
-use dy_read_words::splitter::Splitting;
-use dy_tree::{Fragment, Token};
+use dy_tree::{Fragment, Splitting, Token};
 use std::alloc::{AllocError, Global};
 
 /// The part behind `finally`, or nothing.
@@ -52,7 +52,7 @@ fn loop_behind(
     head: &[Fragment],
     rest: &[Fragment],
 ) -> Result<Option<Grown>, AllocError>
-    ensures { IfOk result (λ found. option_map read_grown found ≡ option_map capped (loop_at word.now (loops.for_items (items_of (seen_fragments head.now))) (cutting.cut (cutting.is_splitter roles.last_part) false (items_of (seen_fragments rest.now))))) }
+    ensures { IfOk result (λ found. option_map read_grown found ≡ option_map capped (loop_at word.now (loops.for_items (items_of (seen_fragments head.now))) (cutting.cut (cutting.is_splitter splittings.LastPart) false (items_of (seen_fragments rest.now))))) }
 {
     let pieces = cut(alloc, Separator::Splitter(Splitting::LastPart), false, rest)?;
     let mut depth = 0;
@@ -69,7 +69,7 @@ pub fn for_loop(
     word: &Token,
     inner: &[Fragment],
 ) -> Result<Option<Grown>, AllocError>
-    ensures { IfOk result (λ found. option_map read_grown found ≡ option_map capped (statements.statement_items roles.for_word word.now (items_of (seen_fragments inner.now)))) }
+    ensures { IfOk result (λ found. option_map read_grown found ≡ option_map capped (statements.statement_items keywords.For word.now (items_of (seen_fragments inner.now)))) }
 {
     match headed(inner) {
         Some(front) => loop_behind(alloc, word, front.inner, front.rest),

@@ -27,9 +27,8 @@ use dy_read_types::division::divide;
 use dy_read_types::variables::variable_front;
 use dy_read_words::alone::token_of;
 use dy_read_words::part_word::is_all_keys;
-use dy_read_words::role::{Role, role_of};
-use dy_read_words::splitter::Splitting;
-use dy_tree::{Fragment, Key, Token, Variable};
+use dy_read_words::role::role_of;
+use dy_tree::{Fragment, Key, Role, Splitting, Token, Variable};
 use std::alloc::{AllocError, Global};
 
 /// What stands behind the symbol of a key, with that symbol where there is one.

@@ -16,8 +16,7 @@ use crate::signatures::signature_front;
 use dy_read_parts::names::name_at;
 use dy_read_parts::trim::without_front;
 use dy_read_statements::method_read::{MethodRead, NamedRead};
-use dy_read_words::splitter::Splitting;
-use dy_tree::{Fragment, Item, Parameters, Token};
+use dy_tree::{Fragment, Item, Parameters, Splitting, Token};
 use std::alloc::{AllocError, Global};
 
 /// A name, and what stands behind it.

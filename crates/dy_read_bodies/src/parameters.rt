@@ -4,9 +4,9 @@ ghost use Rattle.std.specs.Prelude.{◌≡◌, map, option_map};
 ghost use Rattle.dy_rules.specs.SeenForms.{seen_keys, seen_parameters};
 ghost use Rattle.dy_rules.specs.SeenTypes.{seen_required, seen_results};
 ghost use Rattle.dy_rules.specs.Trees as trees;
-ghost use Rattle.dy_read_shapes.specs.Held.{seen_key, seen_listed_keys};
+ghost use Rattle.dy_rules.specs.Held.{held_key, held_keys};
 ghost use Rattle.dy_read_bodies.specs.Listed.{read_listed};
-ghost use Rattle.dy_read_bodies.specs.Parameters.{held_keys};
+ghost use Rattle.dy_read_bodies.specs.Parameters.{kept_keys};
 ghost use Rattle.dy_read_statements.specs.ReadBodies.{read_parameters};
 ghost use Rattle.dy_read_types.specs.Results.{read_results};
 
@@ -15,7 +15,7 @@ use dy_read_statements::listed_read::ListedRead;
 use dy_tree::{Keys, Parameters, Required, Results, Token};
 
 fn keys_form(read: KeysRead) -> Keys
-    ensures { seen_keys result ≡ trees.some_keys (trees.keys_of (map seen_key read.keys.items)) read.takes_all }
+    ensures { seen_keys result ≡ trees.some_keys (trees.keys_of (map held_key read.keys.items)) read.takes_all }
 {
     Keys {
         keys: read.keys,
@@ -24,7 +24,7 @@ fn keys_form(read: KeysRead) -> Keys
 }
 
 fn maybe_keys(read: Option<KeysRead>) -> Option<Keys>
-    ensures { seen_listed_keys result ≡ held_keys read }
+    ensures { held_keys result ≡ kept_keys read }
 {
     match read {
         Some(read) => Some(keys_form(read)),
@@ -39,7 +39,7 @@ fn parameters_form(
     keys: Option<Keys>,
     results: Option<Results>,
 ) -> Parameters
-    ensures { seen_parameters result ≡ trees.parameters (map seen_required required.items) next rest (seen_listed_keys keys) (option_map seen_results results) }
+    ensures { seen_parameters result ≡ trees.parameters (map seen_required required.items) next rest (held_keys keys) (option_map seen_results results) }
 {
     Parameters {
         required,

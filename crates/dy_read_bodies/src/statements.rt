@@ -2,9 +2,9 @@
 
 ghost use Rattle.std.specs.Prelude.{◌≡◌, IfOk, option_map};
 ghost use Rattle.dy_tree.specs.Fragments.{seen_fragments};
+ghost use Rattle.dy_tree.specs.declared.brackets.Keyword.TheVariants as keywords;
 ghost use Rattle.dy_rules.specs.Depth as measure;
 ghost use Rattle.dy_rules.specs.Fragments.{items_of};
-ghost use Rattle.dy_rules.specs.Roles.{begin_word, guard_word, method_word};
 ghost use Rattle.dy_rules.specs.StatementReading.{statement_items};
 ghost use Rattle.dy_rules.specs.Trees as trees;
 ghost use Rattle.dy_rules_depth.specs.Capping.{capped};
@@ -13,7 +13,6 @@ ghost use Rattle.dy_read_statements.specs.ReadBodies.{read_items};
 ghost use Rattle.dy_read_statements.specs.BodyDepths.{BodyDepth};
 ghost use Rattle.dy_read_statements.specs.ReadMethods.{read_parts, parts_depth, MethodReadDepth};
 ghost use Rattle.dy_read_statements.specs.ReadStatements.{both, capped_begin, capped_guarded, capped_method_tree};
-ghost use Rattle.dy_read_words.specs.Seen.{seen_guard};
 
 use crate::bodies::body;
 use crate::expressions::expression;
@@ -25,9 +24,7 @@ use dy_read_statements::statement_nodes::{
 };
 use dy_read_statements::tested::tested;
 use dy_read_types::depth::deepest;
-use dy_read_words::bracket::Guard;
-use dy_read_words::splitter::Splitting;
-use dy_tree::{Fragment, Item, Token};
+use dy_tree::{Fragment, Guard, Item, Splitting, Token};
 use std::alloc::{AllocError, Global};
 
 fn begin_within(
@@ -61,7 +58,7 @@ fn begin_with(
 /// `begin`
 #[cycle(read)]
 pub fn begin(alloc: Global, word: &Token, inner: &[Fragment]) -> Result<Option<Grown>, AllocError>
-    ensures { IfOk result (λ found. option_map read_grown found ≡ option_map capped (statement_items begin_word word.now (items_of (seen_fragments inner.now)))) }
+    ensures { IfOk result (λ found. option_map read_grown found ≡ option_map capped (statement_items keywords.Begin word.now (items_of (seen_fragments inner.now)))) }
 {
     let mut inside = 0;
     let trees = body(alloc, Splitting::Nothing, inner, &mut inside)?;
@@ -77,7 +74,7 @@ fn guarded_within(
     inside: usize,
 ) -> Result<Grown, AllocError>
     requires { inside ≡ measure.body_depth (trees.body_of (read_items body)) }
-    ensures { IfOk result (λ grown. read_grown grown ≡ capped_guarded (seen_guard guard) word.now (read_grown test) (read_items body)) }
+    ensures { IfOk result (λ grown. read_grown grown ≡ capped_guarded guard word.now (read_grown test) (read_items body)) }
 {
     let inside = deepest(test.depth, inside);
     let tree = guarded_tree(guard, word.copy()?, test.tree, body);
@@ -93,7 +90,7 @@ fn guarded_with(
     inside: usize,
 ) -> Result<Option<Grown>, AllocError>
     requires { BodyDepth 0 inside body }
-    ensures { IfOk result (λ found. option_map read_grown found ≡ both (capped_guarded (seen_guard guard) word.now) (option_map read_grown test) (option_map read_items body)) }
+    ensures { IfOk result (λ found. option_map read_grown found ≡ both (capped_guarded guard word.now) (option_map read_grown test) (option_map read_items body)) }
 {
     let Some(test) = test else {
         return Ok(None);
@@ -112,7 +109,7 @@ pub fn guarded(
     word: &Token,
     inner: &[Fragment],
 ) -> Result<Option<Grown>, AllocError>
-    ensures { IfOk result (λ found. option_map read_grown found ≡ option_map capped (statement_items (guard_word (seen_guard guard)) word.now (items_of (seen_fragments inner.now)))) }
+    ensures { IfOk result (λ found. option_map read_grown found ≡ option_map capped (statement_items (keywords.Guard guard) word.now (items_of (seen_fragments inner.now)))) }
 {
     match tested(inner) {
         None => Ok(None),
@@ -161,7 +158,7 @@ pub fn method_statement(
     word: &Token,
     inner: &[Fragment],
 ) -> Result<Option<Grown>, AllocError>
-    ensures { IfOk result (λ found. option_map read_grown found ≡ option_map capped (statement_items method_word word.now (items_of (seen_fragments inner.now)))) }
+    ensures { IfOk result (λ found. option_map read_grown found ≡ option_map capped (statement_items keywords.Method word.now (items_of (seen_fragments inner.now)))) }
 {
     let mut inside = 0;
     let found = method(alloc, inner, &mut inside)?;

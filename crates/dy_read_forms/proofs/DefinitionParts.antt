@@ -3,9 +3,12 @@ use Rattle.std.proofs.Common.{◌≡◌, Bool, true, false, List, [], ◌∷◌,
 use Rattle.dy_tree.specs.declared.token.Token.{Token}
 use Rattle.dy_tree.specs.declared.types.TypeForm.{TypeForm}
 use Rattle.dy_tree.specs.Fragments.{SeenFragment, one, group}
+use Rattle.dy_tree.specs.declared.roles.Role.{Role}
+use Rattle.dy_tree.specs.declared.roles.Role.TheVariants as roles
+use Rattle.dy_tree.specs.declared.splitters.Splitting.TheVariants as splittings
 use Rattle.dy_rules.specs.Trees.{Tree, Listed, parameters_of}
 use Rattle.dy_rules.specs.Types.{TypeTree, TargetTree, types_of}
-use Rattle.dy_rules.specs.Roles.{Role, named, role_of, nothing}
+use Rattle.dy_rules.specs.Roles.{role_of}
 use Rattle.dy_rules.specs.Cutting.{Item, Sides, NamedFound, Front, headed, first_cut}
 use Rattle.dy_rules.specs.TypeReading.{target_items}
 use Rattle.dy_rules.specs.Reading.{expression_items}
@@ -40,7 +43,7 @@ module _ (define : Token) (adjectives : List Token) where
   class_is (item ∷ rest) = at item.fragment
     where
       by : (role : Role) (token : Token) → class_named role define adjectives token rest ≡ option_and_then class_behind (name_by role token rest)
-      by named token = refl
+      by roles.Named token = refl
       by role token = refl
 
       at : (fragment : SeenFragment) → class_at define adjectives fragment rest ≡ option_and_then class_behind (name_at fragment rest)
@@ -73,7 +76,7 @@ bound_is form items = go (first_cut is_equals_at items)
 
     to : (after : List Item) (found : Option TargetTree) → option_and_then (reading.bound_with form after) found ≡ option_map (bound_form form) (option_and_then (bound_with after) found)
     to after None = refl
-    to after (Some target) = value target (expression_items nothing after)
+    to after (Some target) = value target (expression_items splittings.Nothing after)
 
     go : (found : Option Sides) → option_and_then (bound_sides form) found ≡ option_map (bound_form form) (option_and_then spec.bound_sides found)
     go None = refl
@@ -84,9 +87,9 @@ no_target after None e = refl
 no_target after (Some target) e = absurd cc
 
 pub bound_through : (after : List Item) (target : TargetTree) (found : Option TargetTree) → Some target ≡ option_map capped_target found
-    → option_map (bound_of target) (option_map capped (expression_items nothing after)) ≡ option_map capped_bound (option_and_then (bound_with after) found)
+    → option_map (bound_of target) (option_map capped (expression_items splittings.Nothing after)) ≡ option_map capped_bound (option_and_then (bound_with after) found)
 bound_through after target None e = absurd cc
-bound_through after target (Some other) e = let same : target ≡ capped_target other = cc in rw same (go (expression_items nothing after))
+bound_through after target (Some other) e = let same : target ≡ capped_target other = cc in rw same (go (expression_items splittings.Nothing after))
   where
     go : (value : Option Tree) → option_map (bound_of (capped_target other)) (option_map capped value) ≡ option_map capped_bound (option_map (bound_of other) value)
     go None = refl
@@ -148,7 +151,7 @@ module _ (define : Token) (adjectives : List Token) where
   generic_is (item ∷ rest) = at item.fragment
     where
       by : (role : Role) (token : Token) → generic_named role define adjectives token rest ≡ option_and_then generic_behind (name_by role token rest)
-      by named token = headed_is token (headed rest)
+      by roles.Named token = headed_is token (headed rest)
       by role token = refl
 
       at : (fragment : SeenFragment) → generic_at define adjectives fragment rest ≡ option_and_then generic_behind (name_at fragment rest)
@@ -166,7 +169,7 @@ module _ (define : Token) where
   domain_is (item ∷ rest) = at item.fragment
     where
       by : (role : Role) (token : Token) → domain_named role define token rest ≡ option_and_then domain_behind (name_by role token rest)
-      by named token = refl
+      by roles.Named token = refl
       by role token = refl
 
       at : (fragment : SeenFragment) → domain_at define fragment rest ≡ option_and_then domain_behind (name_at fragment rest)

@@ -1,19 +1,23 @@
 -- Slots and their options, with what stands in the place of trees that are too deep.
-use Rattle.std.proofs.Common.{◌≡◌, ℕ, ◌<◌, ◌+◌, length, drop, get_or, max, true, false, List, [], ◌∷◌, ◌++◌, map, Option, Some, None, option_map, option_and_then, refl, sym, ap, ◌∙◌, arith}
+use Rattle.std.proofs.Common.{◌≡◌, ℕ, ◌<◌, ◌+◌, length, drop, get_or, max, Bool, true, false, List, [], ◌∷◌, ◌++◌, map, Option, Some, None, option_map, option_and_then, refl, sym, ap, ◌∙◌, arith}
 use Rattle.std.proofs.lemmas.List.{drop_more, append-nil}
 use Rattle.dy_tree.specs.declared.form.Slot.{Slot}
 use Rattle.dy_tree.specs.declared.form.SlotOption as form
 use Rattle.dy_tree.specs.Fragments.{seen_fragments}
+use Rattle.dy_tree.specs.declared.splitters.Splitting.TheVariants as splittings
 use Rattle.dy_rules.specs.Trees.{Tree, MaybeTree}
-use Rattle.dy_rules.specs.Roles.{nothing}
 use Rattle.dy_rules.specs.Cutting.{Item, each_other}
 use Rattle.dy_rules.specs.Definitions.{suit_slot}
 use Rattle.dy_rules.specs.TypeReading.{VariableFront, variable_front}
 use Rattle.dy_rules.specs.Reading.{expression_items}
 use Rattle.dy_rules.specs.Signatures.{initial_items}
-use Rattle.dy_rules.specs.Forms.{SlotOption, SlotTree}
+use Rattle.dy_rules.specs.SeenForms.{seen_slot}
+use Rattle.dy_rules.specs.Tests.{only_if, if_passes}
+use Rattle.dy_rules.specs.Forms.{SlotOption, SlotTree, is_consistent}
 use Rattle.dy_rules.specs.FormReading.{WordsFront, value_of, function_of, option_items, slot_of, slot_variable, slot_front, slot_items, slots_from}
 use Rattle.dy_rules.specs.FormDepth.{option_depth, options_depth, slots_depth}
+use Rattle.dy_rules.proofs.Lists.{some_one}
+use Rattle.dy_rules_depth.proofs.Consistent.{consistent_capped, consistent_filled}
 use Rattle.dy_rules_depth.specs.Changes.{changed_maybe}
 use Rattle.dy_rules_depth.specs.Capping.{capped, capping}
 use Rattle.dy_rules.specs.Fragments.{items_of}
@@ -24,15 +28,15 @@ use Rattle.dy_read_forms.specs.ReadForms.{read_option, read_options, read_slot, 
 use Rattle.dy_read_types.specs.VariableFronts.{capped_front}
 use Rattle.dy_read_parts.proofs.PieceRows.{more_read, more_fails}
 
-pub value_through : (items : List Item) → option_map value_of (option_map capped (expression_items nothing items)) ≡ option_map capped_option (option_map value_of (expression_items nothing items))
-value_through items = go (expression_items nothing items)
+pub value_through : (items : List Item) → option_map value_of (option_map capped (expression_items splittings.Nothing items)) ≡ option_map capped_option (option_map value_of (expression_items splittings.Nothing items))
+value_through items = go (expression_items splittings.Nothing items)
   where
     go : (found : Option Tree) → option_map value_of (option_map capped found) ≡ option_map capped_option (option_map value_of found)
     go None = refl
     go (Some tree) = refl
 
-pub function_through : (items : List Item) → option_map function_of (option_map capped (expression_items nothing items)) ≡ option_map capped_option (option_map function_of (expression_items nothing items))
-function_through items = go (expression_items nothing items)
+pub function_through : (items : List Item) → option_map function_of (option_map capped (expression_items splittings.Nothing items)) ≡ option_map capped_option (option_map function_of (expression_items splittings.Nothing items))
+function_through items = go (expression_items splittings.Nothing items)
   where
     go : (found : Option Tree) → option_map function_of (option_map capped found) ≡ option_map capped_option (option_map function_of found)
     go None = refl
@@ -95,6 +99,36 @@ module _ (pieces : List Piece) (i : ℕ) (piece : Piece) (lt : i < length pieces
 -- nothing is left to read
 pub slots_ended : (before : List SlotTree) → read_before before (option_map (map capped_slot) (slots_from [] [])) ≡ Some before
 slots_ended before = ap Some (append-nil before)
+
+-- a slot whose parts fit together
+
+module _ (slot : Slot) (found : Option SlotTree) (is : Some (read_slot slot) ≡ option_map capped_slot found) where
+  same : (tree : SlotTree) → found ≡ Some tree → is_consistent tree ≡ is_consistent (seen_slot slot)
+  same tree e =
+      let read : read_slot slot ≡ capped_slot tree = some_one _ _ (is ∙ ap (option_map capped_slot) e) in
+      sym (consistent_capped tree) ∙ ap is_consistent (sym read) ∙ consistent_filled (seen_slot slot)
+
+  passed : (b : Bool) → is_consistent (seen_slot slot) ≡ b → (other : Option SlotTree) → found ≡ other → option_map capped_slot (option_and_then (if_passes is_consistent) other) ≡ option_map capped_slot (option_and_then (only_if b) other)
+  passed b e None f = refl
+  passed b e (Some tree) f = ap (λ (c : Bool). option_map capped_slot (only_if c tree)) (same tree f ∙ e)
+
+  kept : (other : Option SlotTree) → option_and_then (only_if true) other ≡ other
+  kept None = refl
+  kept (Some tree) = refl
+
+  left : (other : Option SlotTree) → option_and_then (only_if false) other ≡ None
+  left None = refl
+  left (Some tree) = refl
+
+  pub consistent_read : is_consistent (seen_slot slot) ≡ true → Some (read_slot slot) ≡ option_map capped_slot (option_and_then (if_passes is_consistent) found)
+  consistent_read e = is ∙ sym (passed true e found refl ∙ ap (option_map capped_slot) (kept found))
+
+  pub inconsistent_read : is_consistent (seen_slot slot) ≡ false → None ≡ option_map capped_slot (option_and_then (if_passes is_consistent) found)
+  inconsistent_read e = sym (passed false e found refl ∙ ap (option_map capped_slot) (left found))
+
+pub unwritten_read : (found : Option SlotTree) → None ≡ option_map capped_slot found → None ≡ option_map capped_slot (option_and_then (if_passes is_consistent) found)
+unwritten_read None e = refl
+unwritten_read (Some tree) e = absurd cc
 
 -- how a slot is read where its parts are
 

@@ -2,9 +2,12 @@
 use Rattle.std.specs.Prelude.{if◌then◌else◌, List, [], ◌∷◌, Option, Some, None, option_map, option_and_then}
 use Rattle.dy_tree.specs.declared.token.Token.{Token}
 use Rattle.dy_tree.specs.Fragments.{SeenFragment, one, group, seen_fragments}
+use Rattle.dy_tree.specs.declared.roles.Role.{Role}
+use Rattle.dy_tree.specs.declared.roles.Role.TheVariants as roles
+use Rattle.dy_tree.specs.declared.splitters.Splitting.TheVariants as splittings
 use Rattle.dy_rules.specs.Trees.{Tree, body_of}
 use Rattle.dy_rules.specs.Types.{TargetTree}
-use Rattle.dy_rules.specs.Roles.{Role, named, role_of, nothing}
+use Rattle.dy_rules.specs.Roles.{role_of}
 use Rattle.dy_rules.specs.Cutting.{Item, Sides, first_cut}
 use Rattle.dy_rules.specs.TypeReading.{target_items}
 use Rattle.dy_rules.specs.Reading.{expression_items}
@@ -35,7 +38,7 @@ abbrev pub named_of : Token → List Item → Named
 named_of token rest = record { token = token; rest = rest }
 
 abbrev pub name_by : Role → Token → List Item → Option Named
-name_by named token rest = Some (named_of token rest)
+name_by roles.Named token rest = Some (named_of token rest)
 name_by _ token rest = None
 
 abbrev pub name_at : SeenFragment → List Item → Option Named
@@ -59,7 +62,7 @@ abbrev pub bound_of : TargetTree → Tree → BoundParts
 bound_of target tree = record { target = target; tree = tree }
 
 abbrev pub bound_with : List Item → TargetTree → Option BoundParts
-bound_with after target = option_map (bound_of target) (expression_items nothing after)
+bound_with after target = option_map (bound_of target) (expression_items splittings.Nothing after)
 
 abbrev pub bound_sides : Sides → Option BoundParts
 bound_sides sides = option_and_then (bound_with sides.after) (target_items sides.before)

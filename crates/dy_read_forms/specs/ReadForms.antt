@@ -1,11 +1,16 @@
 -- Slots and forms, as the reader gives them.
-use Rattle.std.specs.Prelude.{◌≡◌, ℕ, max, ⊤, List, map, Option, Some, None}
+use Rattle.std.specs.Prelude.{◌≡◌, ℕ, false, max, ⊤, List, map, Option, Some, None}
 use Rattle.std.specs.Global.{Vec}
 use Rattle.dy_tree.specs.declared.expression.Expression.{Expression}
 use Rattle.dy_tree.specs.declared.form.Form.{Form}
 use Rattle.dy_tree.specs.declared.form.Slot.{Slot}
 use Rattle.dy_tree.specs.declared.form.SlotOption.{SlotOption}
+use Rattle.dy_tree.specs.Fragments.{SeenFragment}
 use Rattle.dy_rules.specs.Trees.{MaybeTree}
+use Rattle.dy_rules.specs.Arguments.{is_comma_fragment}
+use Rattle.dy_rules.specs.Cutting.{cut}
+use Rattle.dy_rules.specs.Fragments.{items_of}
+use Rattle.dy_rules.specs.FormReading.{slot_pieces}
 use Rattle.dy_rules.specs.Forms as written
 use Rattle.dy_rules.specs.Depth.{variable_depth, maybe_depth}
 use Rattle.dy_rules.specs.FormDepth.{option_depth, options_depth, slots_depth}
@@ -45,6 +50,10 @@ capped_slot slot = changed_slot capping slot
 
 abbrev pub capped_form : written.FormTree → written.FormTree
 capped_form form = changed_form capping form
+
+-- the slot that fragments stand for, whose parts need not fit together
+abbrev pub written_slot : List SeenFragment → Option written.SlotTree
+written_slot fragments = slot_pieces (cut is_comma_fragment false (items_of fragments))
 
 -- how deep they are with what was read before
 

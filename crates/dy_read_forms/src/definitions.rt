@@ -32,8 +32,7 @@ use dy_read_statements::signature_front::SignatureFront;
 use dy_read_types::depth::{DEPTH_LIMIT, deepen};
 use dy_read_types::targets::target_items;
 use dy_read_types::types::types_items;
-use dy_read_words::splitter::Splitting;
-use dy_tree::{Form, Fragment, Slot, Target, Token, TypeForm};
+use dy_tree::{Form, Fragment, Slot, Splitting, Target, Token, TypeForm};
 use std::alloc::{AllocError, Global};
 
 /// A class with its slots, of which the deepest is so deep.

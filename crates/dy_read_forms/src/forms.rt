@@ -21,9 +21,8 @@ use dy_read_types::depth::DEPTH_LIMIT;
 use dy_read_words::adjective::{
     suit_binding, suit_class, suit_domain, suit_function, suit_generic, suit_method,
 };
-use dy_read_words::define_word::{DefineWord, define_word_of};
-use dy_read_words::splitter::Splitting;
-use dy_tree::{Form, Fragment, Token};
+use dy_read_words::define_word::define_word_of;
+use dy_tree::{DefineWord, Form, Fragment, Splitting, Token};
 use std::alloc::{AllocError, Global};
 
 /// What is told of the fragments of a form.

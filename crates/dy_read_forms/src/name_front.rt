@@ -3,11 +3,11 @@
 ghost use Rattle.std.specs.Prelude.{◌≡◌, ◌≤◌, ◌∷◌, IfSome, option_map};
 ghost use Rattle.dy_tree.specs.Fragments.{seen_fragment, seen_fragments};
 ghost use Rattle.dy_rules.specs.Fragments.{items_of};
-ghost use Rattle.dy_rules.specs.Roles as roles;
+ghost use Rattle.dy_rules.specs.Roles as rules;
 ghost use Rattle.dy_read_forms.specs.ReadDefinitions as spec;
 
-use dy_read_words::role::{Role, role_of};
-use dy_tree::{Fragment, Token};
+use dy_read_words::role::role_of;
+use dy_tree::{Fragment, Role, Token};
 
 /// A name, and what stands behind it.
 #[derive(Clone, Copy, Debug)]
@@ -17,7 +17,7 @@ pub(crate) struct NameFront<'a> {
 }
 
 fn name_by<'a>(token: &'a Token, rest: &'a [Fragment]) -> Option<NameFront<'a>>
-    ensures { option_map spec.seen_name result ≡ spec.name_by (roles.role_of token.now) token.now (items_of (seen_fragments rest.now)) }
+    ensures { option_map spec.seen_name result ≡ spec.name_by (rules.role_of token.now) token.now (items_of (seen_fragments rest.now)) }
 {
     match role_of(token) {
         Role::Named => Some(NameFront { name: token, rest }),

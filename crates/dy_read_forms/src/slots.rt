@@ -8,8 +8,7 @@ ghost use Rattle.dy_rules.specs.Fragments.{items_of};
 ghost use Rattle.dy_rules.specs.FormReading as reading;
 ghost use Rattle.dy_read_parts.specs.Cut.{seen_piece};
 ghost use Rattle.dy_read_operators.specs.Grown.{read_grown};
-ghost use Rattle.dy_read_forms.specs.ReadForms.{read_initial, read_option, options_in, read_slot, slots_in, capped_option, capped_slot, OptionDepth, OptionsDepth, SlotDepth, SlotsDepth};
-ghost use Rattle.dy_read_words.specs.Seen.{seen_option_word};
+ghost use Rattle.dy_read_forms.specs.ReadForms.{written_slot, read_initial, read_option, options_in, read_slot, slots_in, capped_option, capped_slot, OptionDepth, OptionsDepth, SlotDepth, SlotsDepth};
 ghost use Rattle.dy_read_forms.specs.ReadForms.{InitialDepth};
 ghost use Rattle.dy_read_shapes.specs.ReadKeys.{read_default};
 ghost use Rattle.dy_rules_depth.specs.Capping.{capping};
@@ -28,10 +27,10 @@ use dy_read_parts::words::{Wanted, WordsFront, words_front};
 use dy_read_types::depth::deepen;
 use dy_read_types::variables::variable_front;
 use dy_read_words::alone::token_of;
-use dy_read_words::option_word::{OptionWord, option_word};
+use dy_read_words::option_word::option_word;
+use dy_read_words::slot::is_consistent;
 use dy_read_words::slot_word::suit_slot;
-use dy_read_words::splitter::Splitting;
-use dy_tree::{Expression, Fragment, Slot, SlotOption, Token, Variable};
+use dy_tree::{Expression, Fragment, OptionWord, Slot, SlotOption, Splitting, Token, Variable};
 use std::alloc::{AllocError, Global};
 
 fn init_keyword(found: Option<Token>) -> Option<SlotOption>
@@ -86,7 +85,7 @@ fn option_by(
     rest: &[Fragment],
     depth: &mut usize,
 ) -> Result<Option<SlotOption>, AllocError>
-    ensures found { IfOk result (λ found. option_map read_option found ≡ option_map capped_option (reading.option_by (seen_option_word word) (items_of (seen_fragments rest.now)))) }
+    ensures found { IfOk result (λ found. option_map read_option found ≡ option_map capped_option (reading.option_by word (items_of (seen_fragments rest.now)))) }
     ensures depth { IfOk result (λ found. OptionDepth depth.old depth.new found) }
 {
     match word {
@@ -208,7 +207,30 @@ fn slot_front(
     }
 }
 
+/// A slot, whose parts need not fit together.
+fn slot_pieces(
+    alloc: Global,
+    fragments: &[Fragment],
+    depth: &mut usize,
+) -> Result<Option<Slot>, AllocError>
+    ensures found { IfOk result (λ found. option_map read_slot found ≡ option_map capped_slot (written_slot (seen_fragments fragments.now))) }
+    ensures depth { IfOk result (λ found. SlotDepth depth.old depth.new found) }
+{
+    let pieces = cut(alloc, Separator::Comma, false, fragments)?;
+    match words_front(alloc, Wanted::Slot, pieces.first)? {
+        Some(words) => {
+            if suit_slot(&words.adjectives) {
+                slot_front(alloc, words, &pieces.others, depth)
+            } else {
+                Ok(None)
+            }
+        }
+        None => Ok(None),
+    }
+}
+
 /// A slot.
+#[tactic(auto, using(crate::proofs::SlotParts::consistent_read, crate::proofs::SlotParts::inconsistent_read, crate::proofs::SlotParts::unwritten_read))]
 fn slot_items(
     alloc: Global,
     fragments: &[Fragment],
@@ -217,11 +239,10 @@ fn slot_items(
     ensures found { IfOk result (λ found. option_map read_slot found ≡ option_map capped_slot (reading.slot_items (items_of (seen_fragments fragments.now)))) }
     ensures depth { IfOk result (λ found. SlotDepth depth.old depth.new found) }
 {
-    let pieces = cut(alloc, Separator::Comma, false, fragments)?;
-    match words_front(alloc, Wanted::Slot, pieces.first)? {
-        Some(words) => {
-            if suit_slot(&words.adjectives) {
-                slot_front(alloc, words, &pieces.others, depth)
+    match slot_pieces(alloc, fragments, depth)? {
+        Some(slot) => {
+            if is_consistent(&slot) {
+                Ok(Some(slot))
             } else {
                 Ok(None)
             }

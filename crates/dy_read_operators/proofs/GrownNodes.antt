@@ -1,7 +1,7 @@
 -- Trees that are put together from trees that were read.
 use Rattle.std.proofs.Common.{◌≡◌, ℕ, ◌+◌, max, ◌<◌, ◌≤◌, List, map, refl, arith}
 use Rattle.dy_tree.specs.declared.token.Token.{Token}
-use Rattle.dy_rules.specs.Operators.{Precedence}
+use Rattle.dy_tree.specs.declared.roles.Precedence.{Precedence}
 use Rattle.dy_rules.specs.Trees.{Tree, assignment, operation, unary, call, element, member, Argument, arguments_of}
 use Rattle.dy_rules.specs.Depth.{depth, arguments_depth, depth_limit}
 use Rattle.dy_rules_depth.specs.Changes.{changed_argument}

@@ -1,4 +1,3 @@
-pub mod ArgumentRows
 pub mod Fills
 pub mod GrownNodes
 pub mod ListTrees

@@ -2,8 +2,9 @@
 use Rattle.std.proofs.Common.{◌≡◌, Bool, true, false, List, [], ◌∷◌, map, Option, Some, None, option_map, option_and_then, refl, sym, ap, ◌∙◌}
 use Rattle.dy_tree.specs.declared.token.Token.{Token}
 use Rattle.dy_tree.specs.declared.types.LiteralForm.TheVariants as literals
+use Rattle.dy_tree.specs.declared.brackets.Bracket.{Bracket}
+use Rattle.dy_tree.specs.declared.splitters.Splitting.{Splitting}
 use Rattle.dy_rules.specs.Trees.{Tree, literal, Argument}
-use Rattle.dy_rules.specs.Roles.{Splitting, Bracket}
 use Rattle.dy_rules.specs.Cutting.{Item}
 use Rattle.dy_rules.specs.Reading as reading
 use Rattle.dy_rules.specs.Reading.{whole, wants, has, at_group, after_item, after_all, tree_of, expression_items, Passing, nothing_passed, passes_next, symbol_first, passing, after_argument, after_passing, arguments_at_end, passed_items}

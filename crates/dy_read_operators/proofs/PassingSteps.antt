@@ -5,10 +5,13 @@ use Rattle.dy_tree.specs.declared.token.Token.{Token}
 use Rattle.dy_tree.specs.declared.types.LiteralForm.TheVariants as literals
 use Rattle.dy_tree.specs.Fragments.{SeenFragments, one, group}
 use Rattle.dy_tree.specs.declared.expression.Argument as forms
+use Rattle.dy_tree.specs.declared.roles.Role.{Role}
+use Rattle.dy_tree.specs.declared.roles.Role.TheVariants as roles
+use Rattle.dy_tree.specs.declared.splitters.Splitting.TheVariants as splittings
 use Rattle.dy_rules.specs.SeenForms.{seen_argument}
 use Rattle.dy_rules.specs.Trees.{Tree, literal, Argument, keyword, value, arguments_of}
 use Rattle.dy_rules.specs.Depth.{depth, arguments_depth, argument_depth, depth_limit}
-use Rattle.dy_rules.specs.Roles.{Role, integer, character, string, boolean, symbol, named, tilde, minus, comma, role_of, nothing, bracket_of}
+use Rattle.dy_rules.specs.Roles.{role_of, bracket_of}
 use Rattle.dy_rules.specs.Arguments.{begins_value, role_begins_value}
 use Rattle.dy_rules.specs.Cutting.{Found}
 use Rattle.dy_rules.specs.Reading as reading
@@ -116,7 +119,7 @@ group_item (passing passed word state) opener inner closer found = else_none _
 
 -- a token
 
-comma_behind : (state : State) (token : Token) → role_of token ≡ comma → at_token nothing state token ≡ None
+comma_behind : (state : State) (token : Token) → role_of token ≡ roles.Comma → at_token splittings.Nothing state token ≡ None
 comma_behind (wants outer) token e = rw e refl
 comma_behind (counted digits outer) token e = rw e refl
 comma_behind (has tree outer) token e = rw e refl
@@ -126,27 +129,27 @@ abbrev AfterToken : Passing → Token → Found → Role → Type 0
 AfterToken reader token found role = role_of token ≡ role → after_argument reader (one token) (record { fragment = one token; found = found }) ≡ after_token role reader token
 
 at_nothing : (token : Token) (found : Found) (role : Role) → AfterToken nothing_passed token found role
-at_nothing token found comma e = rw e refl
+at_nothing token found roles.Comma e = rw e refl
 at_nothing token found role e = rw e refl
 
 at_next : (passed : List Argument) (token : Token) (found : Found) (role : Role) → AfterToken (passes_next passed) token found role
-at_next passed token found comma e = rw e refl
+at_next passed token found roles.Comma e = rw e refl
 at_next passed token found role e = rw e refl
 
 -- a token behind a symbol at the front of an argument, by its role
 symbol_at : (passed : List Argument) (first token : Token) (found : Found) (role : Role) → role_of token ≡ role → reading.by_symbol (role_begins_value role) passed first (one token) (record { fragment = one token; found = found }) ≡ after_token role (symbol_first passed first) token
-symbol_at passed first token found integer e = refl
-symbol_at passed first token found character e = refl
-symbol_at passed first token found string e = refl
-symbol_at passed first token found boolean e = refl
-symbol_at passed first token found symbol e = refl
-symbol_at passed first token found named e = refl
-symbol_at passed first token found minus e = refl
-symbol_at passed first token found tilde e = refl
-symbol_at passed first token found comma e =
+symbol_at passed first token found roles.Integer e = refl
+symbol_at passed first token found roles.Character e = refl
+symbol_at passed first token found roles.Text e = refl
+symbol_at passed first token found roles.Boolean e = refl
+symbol_at passed first token found roles.Symbol e = refl
+symbol_at passed first token found roles.Named e = refl
+symbol_at passed first token found roles.Minus e = refl
+symbol_at passed first token found roles.Tilde e = refl
+symbol_at passed first token found roles.Comma e =
     let reader = symbol_first passed first in
     ap (λ (role : Role). or_else (reading.in_value passed None (has (literal (literals.Symbol first)) whole) (record { fragment = one token; found = found })) (reading.at_comma role reader)) e
-    ∙ ap (λ (state : Option State). or_else (option_map (passing passed None) state) (reading.at_comma comma reader)) (comma_behind (has (literal (literals.Symbol first)) whole) token e)
+    ∙ ap (λ (state : Option State). or_else (option_map (passing passed None) state) (reading.at_comma roles.Comma reader)) (comma_behind (has (literal (literals.Symbol first)) whole) token e)
 symbol_at passed first token found role e =
     let operand = reading.in_value passed None (has (literal (literals.Symbol first)) whole) (record { fragment = one token; found = found }) in
     ap (λ (role : Role). or_else operand (reading.at_comma role (symbol_first passed first))) e ∙ else_none operand
@@ -155,7 +158,7 @@ at_symbol : (passed : List Argument) (first token : Token) (found : Found) (role
 at_symbol passed first token found role e = ap (λ (role : Role). reading.by_symbol (role_begins_value role) passed first (one token) (record { fragment = one token; found = found })) e ∙ symbol_at passed first token found role e
 
 at_within : (passed : List Argument) (word : Option Token) (state : State) (token : Token) (found : Found) (role : Role) → AfterToken (passing passed word state) token found role
-at_within passed word state token found comma e = let none = comma_behind state token e in rw (none, e) refl
+at_within passed word state token found roles.Comma e = let none = comma_behind state token e in rw (none, e) refl
 at_within passed word state token found role e = rw e (else_none _)
 
 pub token_item : (reader : Passing) (token : Token) (found : Found) → after_argument reader (one token) (record { fragment = one token; found = found }) ≡ after_token (role_of token) reader token

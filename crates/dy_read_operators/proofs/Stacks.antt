@@ -6,9 +6,11 @@ use Rattle.std.proofs.Math.Seq.{get_or-append_seam}
 use Rattle.std.specs.List.{slice_get}
 use Rattle.std.specs.Option.{option_to_list, MatchOption}
 use Rattle.dy_tree.specs.declared.token.Token.{Token}
+use Rattle.dy_tree.specs.declared.roles.Role.{Role}
+use Rattle.dy_tree.specs.declared.roles.Role.TheVariants as roles
 use Rattle.dy_rules.specs.Trees.{Tree}
 use Rattle.dy_rules.specs.Trees as trees
-use Rattle.dy_rules.specs.Roles.{Role, role_of, minus, positive, negative}
+use Rattle.dy_rules.specs.Roles.{role_of, positive, negative}
 use Rattle.dy_rules.specs.Reading as reading
 use Rattle.dy_rules.specs.Reading.{whole, Part, reduced, finished, under_sign, integer_part}
 use Rattle.dy_rules_depth.specs.ReaderChanges.{changed_outer, changed_part}
@@ -129,11 +131,11 @@ finish_step tree outer before after old new entry h is made =
 -- a minus that an integer takes in
 
 by_sign : (role : Role) (sign digits : Token) (outer : reading.Outer) → is_minus role ≡ true → under_sign role sign digits outer ≡ (trees.literal (negative sign digits), outer)
-by_sign minus sign digits outer e = refl
+by_sign roles.Minus sign digits outer e = refl
 by_sign role sign digits outer e = absurd cc
 
 by_other : (role : Role) (sign digits : Token) (outer : reading.Outer) → is_minus role ≡ false → under_sign role sign digits outer ≡ (trees.literal (positive digits), reading.under sign outer)
-by_other minus sign digits outer e = absurd cc
+by_other roles.Minus sign digits outer e = absurd cc
 by_other role sign digits outer e = refl
 
 minus_stays : (entry : Entry) (outer : reading.Outer) (digits : Token) → is_under_minus entry ≡ false → integer_part digits (wrapped entry outer) ≡ (trees.literal (positive digits), wrapped entry outer)

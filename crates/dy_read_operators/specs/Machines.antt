@@ -1,8 +1,12 @@
 -- The reader of one expression, as the definitions see it.
 use Rattle.std.specs.Prelude.{Option, None}
 use Rattle.dy_tree.specs.declared.token.Token.{Token}
+use Rattle.dy_tree.specs.declared.roles.Role.{Role}
+use Rattle.dy_tree.specs.declared.roles.Role.TheVariants as roles
+use Rattle.dy_tree.specs.declared.brackets.Bracket.{Bracket}
+use Rattle.dy_tree.specs.declared.brackets.Bracket.TheVariants as brackets
 use Rattle.dy_rules.specs.Trees.{literal}
-use Rattle.dy_rules.specs.Roles.{Role, dot, positive, Bracket, round, square, hidden, sharp_round, sharp_square, statement}
+use Rattle.dy_rules.specs.Roles.{positive}
 use Rattle.dy_rules.specs.Reading as reading
 use Rattle.dy_rules.specs.Reading.{Outer, Part}
 use Rattle.dy_read_operators.specs.declared.state.State.{State}
@@ -24,21 +28,21 @@ seen_machine machine = seen_state machine.state (seen_outer machine.outer)
 
 -- an integer in front of a token: in front of a dot by itself
 abbrev pub integer_for : Role → Token → Outer → Part
-integer_for dot digits outer = (literal (positive digits), outer)
+integer_for roles.Dot digits outer = (literal (positive digits), outer)
 integer_for _ digits outer = reading.integer_part digits outer
 
 -- which inside of a group is looked at
 abbrev pub need_at_operand : Bracket → Need
-need_at_operand round = needs.Tree
-need_at_operand hidden = needs.Tree
-need_at_operand sharp_round = needs.Tree
-need_at_operand sharp_square = needs.Tree
-need_at_operand (statement kind) = needs.Tree
+need_at_operand brackets.Round = needs.Tree
+need_at_operand brackets.Hidden = needs.Tree
+need_at_operand brackets.SharpRound = needs.Tree
+need_at_operand brackets.SharpSquare = needs.Tree
+need_at_operand (brackets.Statement kind) = needs.Tree
 need_at_operand _ = needs.Nothing
 
 abbrev pub need_behind : Bracket → Need
-need_behind round = needs.Arguments
-need_behind square = needs.Tree
+need_behind brackets.Round = needs.Arguments
+need_behind brackets.Square = needs.Tree
 need_behind _ = needs.Nothing
 
 abbrev pub need_of : reading.State → Bracket → Need

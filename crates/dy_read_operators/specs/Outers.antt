@@ -3,21 +3,22 @@ use Rattle.std.specs.Prelude.{◌≡◌, ◌-◌, ℕ, Bool, true, false, nat_lt
 use Rattle.std.specs.List.{slice_get}
 use Rattle.dy_tree.specs.declared.token.Token.{Token}
 use Rattle.dy_tree.specs.declared.types.LiteralForm.{LiteralForm}
+use Rattle.dy_tree.specs.declared.roles.Role.{Role}
+use Rattle.dy_tree.specs.declared.roles.Role.TheVariants as roles
 use Rattle.dy_rules.specs.Operators.{below}
 use Rattle.dy_rules.specs.Trees as trees
 use Rattle.dy_rules.specs.Trees.{Tree}
-use Rattle.dy_rules.specs.Roles.{Role, minus, role_of, positive, negative}
+use Rattle.dy_rules.specs.Roles.{role_of, positive, negative}
 use Rattle.dy_rules.specs.Reading as reading
 use Rattle.dy_rules.specs.Reading.{whole}
 use Rattle.dy_read_operators.specs.declared.outer.Entry.{Entry}
 use Rattle.dy_read_operators.specs.declared.outer.Entry.TheVariants as entries
 use Rattle.dy_read_operators.specs.declared.outer.Outer.{Outer}
 use Rattle.dy_read_operators.specs.Grown.{read_grown}
-use Rattle.dy_read_words.specs.Seen.{seen_precedence}
 
 -- an entry more, with this outside of it
 abbrev pub wrapped : Entry → reading.Outer → reading.Outer
-wrapped (entries.Operated precedence left sign) outer = reading.operated (seen_precedence precedence) (read_grown left) sign outer
+wrapped (entries.Operated precedence left sign) outer = reading.operated precedence (read_grown left) sign outer
 wrapped (entries.Under sign) outer = reading.under sign outer
 wrapped (entries.Assigned place sign) outer = reading.assigned (read_grown place) outer
 
@@ -31,18 +32,18 @@ seen_outer outer = outer_from whole outer.entries.items
 
 -- the tree that an entry makes of the one inside of it
 abbrev pub closed : Entry → Tree → Tree
-closed (entries.Operated precedence left sign) tree = trees.operation (seen_precedence precedence) (read_grown left) sign tree
+closed (entries.Operated precedence left sign) tree = trees.operation precedence (read_grown left) sign tree
 closed (entries.Under sign) tree = trees.unary sign tree
 closed (entries.Assigned place sign) tree = trees.assignment (read_grown place) tree
 
 -- An operation that binds tighter than so many levels is whole, and so is a unary one.
 abbrev pub is_tighter : ℕ → Entry → Bool
-is_tighter height (entries.Operated precedence left sign) = nat_lt (below (seen_precedence precedence)) height
+is_tighter height (entries.Operated precedence left sign) = nat_lt (below precedence) height
 is_tighter height (entries.Under sign) = true
 is_tighter height (entries.Assigned place sign) = false
 
 abbrev pub is_minus : Role → Bool
-is_minus minus = true
+is_minus roles.Minus = true
 is_minus _ = false
 
 abbrev pub is_under_minus : Entry → Bool

@@ -2,8 +2,11 @@
 use Rattle.std.specs.Prelude.{Bool, true, false, List, [], Option, Some, None, option_map}
 use Rattle.dy_tree.specs.declared.token.Token.{Token}
 use Rattle.dy_tree.specs.declared.types.LiteralForm.TheVariants as literals
+use Rattle.dy_tree.specs.declared.roles.Role.{Role}
+use Rattle.dy_tree.specs.declared.roles.Role.TheVariants as roles
+use Rattle.dy_tree.specs.declared.brackets.Bracket.{Bracket}
+use Rattle.dy_tree.specs.declared.splitters.Splitting.TheVariants as splittings
 use Rattle.dy_rules.specs.Trees.{Tree, literal, Argument}
-use Rattle.dy_rules.specs.Roles.{Role, comma, symbol, nothing, Bracket}
 use Rattle.dy_rules.specs.Arguments.{role_begins_value}
 use Rattle.dy_rules.specs.Reading as reading
 use Rattle.dy_rules.specs.Reading.{whole, wants, has, nothing_passed, passes_next, symbol_first, passing, at_token, at_group, arguments_in}
@@ -19,7 +22,7 @@ ahead false (symbol_first passed token) = passing passed None (has (literal (lit
 ahead begins (passing passed token state) = passing passed token state
 
 abbrev pub value_token : reading.Passing → Token → Option reading.Passing
-value_token (passing passed keyword state) token = option_map (passing passed keyword) (at_token nothing state token)
+value_token (passing passed keyword state) token = option_map (passing passed keyword) (at_token splittings.Nothing state token)
 value_token _ token = None
 
 -- a symbol, which may stand at the front of an argument
@@ -30,8 +33,8 @@ after_symbol (symbol_first passed first) token = value_token (ahead true (symbol
 after_symbol (passing passed keyword state) token = value_token (passing passed keyword state) token
 
 abbrev pub after_token : Role → reading.Passing → Token → Option reading.Passing
-after_token comma reader token = option_map passes_next (arguments_in reader)
-after_token symbol reader token = after_symbol reader token
+after_token roles.Comma reader token = option_map passes_next (arguments_in reader)
+after_token roles.Symbol reader token = after_symbol reader token
 after_token role reader token = value_token (ahead (role_begins_value role) reader) token
 
 abbrev pub value_group : reading.Passing → Token → Bracket → Option Tree → Option (List Argument) → Option reading.Passing

@@ -8,13 +8,11 @@ ghost use Rattle.dy_rules_depth.specs.Capping.{is_absent, deep_tree, capped};
 ghost use Rattle.dy_read_operators.specs.Grown.{read_grown};
 ghost use Rattle.dy_read_operators.specs.Passed.{read_passed};
 ghost use Rattle.dy_read_operators.specs.ReadTrees.{read_tree, seen_list};
-ghost use Rattle.dy_read_words.specs.Seen.{seen_precedence};
 
 use crate::grown::Grown;
 use crate::passed::Passed;
 use dy_read_types::depth::{DEPTH_LIMIT, deepest};
-use dy_read_words::role::Precedence;
-use dy_tree::{Argument, Expression, LiteralForm, Token, TokenKind};
+use dy_tree::{Argument, Expression, LiteralForm, Precedence, Token, TokenKind};
 use std::alloc::{AllocError, Global};
 
 /// A leaf that stands in the place of a tree that is too deep.
@@ -61,43 +59,6 @@ pub fn name(alloc: Global, token: &Token) -> Result<Grown, AllocError>
     grown(alloc, Expression::Name(token.copy()?), 1)
 }
 
-fn operation_of(
-    precedence: Precedence,
-    left: Box<Expression>,
-    operator: Token,
-    right: Box<Expression>,
-) -> Expression
-    ensures { seen_tree result ≡ trees.operation (seen_precedence precedence) (seen_tree left.value) operator (seen_tree right.value) }
-{
-    match precedence {
-        Precedence::Power => Expression::Power {
-            left,
-            operator,
-            right,
-        },
-        Precedence::Product => Expression::Product {
-            left,
-            operator,
-            right,
-        },
-        Precedence::Sum => Expression::Sum {
-            left,
-            operator,
-            right,
-        },
-        Precedence::Comparison => Expression::Comparison {
-            left,
-            operator,
-            right,
-        },
-        Precedence::Logical => Expression::Logical {
-            left,
-            operator,
-            right,
-        },
-    }
-}
-
 fn call_of(function: Box<Expression>, arguments: Vec<Argument>) -> Expression
     ensures { seen_tree result ≡ trees.call (seen_tree function.value) (trees.arguments_of (seen_list arguments.items)) }
 {
@@ -115,11 +76,16 @@ pub fn operation(
     sign: Token,
     right: Grown,
 ) -> Result<Grown, AllocError>
-    ensures { IfOk result (λ grown. read_grown grown ≡ capped (trees.operation (seen_precedence precedence) (read_grown left) sign (read_grown right))) }
+    ensures { IfOk result (λ grown. read_grown grown ≡ capped (trees.operation precedence (read_grown left) sign (read_grown right))) }
 {
     let inside = deepest(left.depth, right.depth);
     if inside < DEPTH_LIMIT {
-        let tree = operation_of(precedence, left.tree, sign, right.tree);
+        let tree = Expression::Operation {
+            precedence,
+            left: left.tree,
+            operator: sign,
+            right: right.tree,
+        };
         grown(alloc, tree, inside + 1)
     } else {
         too_deep(alloc, &sign)

@@ -7,13 +7,12 @@ ghost use Rattle.dy_rules_depth.specs.Capping.{capped, capping};
 ghost use Rattle.dy_rules_depth.specs.ReaderChanges.{changed_part};
 ghost use Rattle.dy_read_operators.specs.Grown.{read_grown};
 ghost use Rattle.dy_read_operators.specs.Outers as spec;
-ghost use Rattle.dy_read_words.specs.Seen.{seen_precedence};
 
 use crate::grown::Grown;
 use crate::nodes::{assignment, literal, operation, unary};
 use dy_read_types::literal::{negative, positive};
-use dy_read_words::role::{Precedence, Role, role_of};
-use dy_tree::{LiteralForm, Token};
+use dy_read_words::role::role_of;
+use dy_tree::{LiteralForm, Precedence, Role, Token};
 use std::alloc::{AllocError, Global};
 
 /// What stands in front of an operand, and takes it in.
@@ -44,7 +43,7 @@ pub struct Outer {
 
 /// How many levels bind tighter.
 pub fn below(precedence: Precedence) -> usize
-    ensures { result ≡ operators.below (seen_precedence precedence) }
+    ensures { result ≡ operators.below precedence }
 {
     match precedence {
         Precedence::Power => 0,

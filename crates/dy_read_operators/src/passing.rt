@@ -3,7 +3,7 @@
 ghost use Rattle.std.specs.Prelude.{◌≡◌, [], IfOk, Some, map, option_map};
 ghost use Rattle.dy_tree.specs.declared.types.LiteralForm.TheVariants as literals;
 ghost use Rattle.dy_rules.specs.SeenForms.{seen_argument, seen_tree};
-ghost use Rattle.dy_rules.specs.Roles as roles;
+ghost use Rattle.dy_rules.specs.Roles as rules;
 ghost use Rattle.dy_rules.specs.Trees as trees;
 ghost use Rattle.dy_rules.specs.Reading as reading;
 ghost use Rattle.dy_rules_depth.specs.Changes.{changed_argument};
@@ -14,7 +14,6 @@ ghost use Rattle.dy_read_operators.specs.Machines.{seen_machine};
 ghost use Rattle.dy_read_operators.specs.Passed.{read_passed};
 ghost use Rattle.dy_read_operators.specs.PassingSteps as steps;
 ghost use Rattle.dy_read_operators.specs.Passings as spec;
-ghost use Rattle.dy_read_words.specs.Seen.{seen_bracket, seen_role};
 
 use crate::grown::Grown;
 use crate::nodes::literal;
@@ -23,10 +22,8 @@ use crate::passed::Passed;
 use crate::state::{Machine, Need, State, need_at_operand, need_behind};
 use dy_read_parts::value::role_begins_value;
 use dy_read_types::depth::deepest;
-use dy_read_words::bracket::Bracket;
-use dy_read_words::role::{Role, role_of};
-use dy_read_words::splitter::Splitting;
-use dy_tree::{Argument, Expression, LiteralForm, Token};
+use dy_read_words::role::role_of;
+use dy_tree::{Argument, Bracket, Expression, LiteralForm, Role, Splitting, Token};
 use std::alloc::{AllocError, Global};
 
 /// A part of an argument was read, after its keyword if it has one.
@@ -141,7 +138,7 @@ impl Value {
         tree: Option<Grown>,
         arguments: Option<Passed>,
     ) -> Result<Option<Passing>, AllocError>
-        ensures { IfOk result (λ next. option_map spec.seen_passing next ≡ option_map (changed_passing capping) (steps.value_group (spec.seen_value self) opener.now (seen_bracket bracket) (option_map read_grown tree) (option_map read_passed arguments))) }
+        ensures { IfOk result (λ next. option_map spec.seen_passing next ≡ option_map (changed_passing capping) (steps.value_group (spec.seen_value self) opener.now bracket (option_map read_grown tree) (option_map read_passed arguments))) }
     {
         let Value {
             passed,
@@ -241,7 +238,7 @@ impl Passing {
 
     /// What is to be read inside of a group that stands next.
     pub fn need(&self, begins: bool, bracket: Bracket) -> Need
-        ensures { result ≡ steps.need_ahead begins (spec.seen_passing self.now) (seen_bracket bracket) }
+        ensures { result ≡ steps.need_ahead begins (spec.seen_passing self.now) bracket }
     {
         match self {
             Passing::Nothing => need_at_operand(bracket),
@@ -267,7 +264,7 @@ impl Passing {
         tree: Option<Grown>,
         arguments: Option<Passed>,
     ) -> Result<Option<Passing>, AllocError>
-        ensures { IfOk result (λ next. option_map spec.seen_passing next ≡ option_map (changed_passing capping) (steps.value_group (steps.ahead begins (spec.seen_passing self)) opener.now (seen_bracket bracket) (option_map read_grown tree) (option_map read_passed arguments))) }
+        ensures { IfOk result (λ next. option_map spec.seen_passing next ≡ option_map (changed_passing capping) (steps.value_group (steps.ahead begins (spec.seen_passing self)) opener.now bracket (option_map read_grown tree) (option_map read_passed arguments))) }
     {
         let value = self.ahead(alloc, begins)?;
         value.group(alloc, bracket, opener, tree, arguments)
@@ -275,7 +272,7 @@ impl Passing {
 
     /// Reads a token.
     pub fn token(self, alloc: Global, token: &Token) -> Result<Option<Passing>, AllocError>
-        ensures { IfOk result (λ next. option_map spec.seen_passing next ≡ option_map (changed_passing capping) (steps.after_token (roles.role_of token.now) (spec.seen_passing self) token.now)) }
+        ensures { IfOk result (λ next. option_map spec.seen_passing next ≡ option_map (changed_passing capping) (steps.after_token (rules.role_of token.now) (spec.seen_passing self) token.now)) }
     {
         self.by_role(alloc, token, role_of(token))
     }
@@ -287,7 +284,7 @@ impl Passing {
         token: &Token,
         role: Role,
     ) -> Result<Option<Passing>, AllocError>
-        ensures { IfOk result (λ next. option_map spec.seen_passing next ≡ option_map (changed_passing capping) (steps.after_token (seen_role role) (spec.seen_passing self) token.now)) }
+        ensures { IfOk result (λ next. option_map spec.seen_passing next ≡ option_map (changed_passing capping) (steps.after_token role (spec.seen_passing self) token.now)) }
     {
         match role {
             Role::Comma => self.comma(alloc),

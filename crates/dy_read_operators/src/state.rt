@@ -1,8 +1,9 @@
 //! The reader of one expression, fragment by fragment. What stands inside of a group is read by others.
 
 ghost use Rattle.std.specs.Prelude.{◌≡◌, suc, IfOk, Some, option_map};
+ghost use Rattle.dy_tree.specs.declared.roles.Role.TheVariants as roles;
 ghost use Rattle.dy_rules.specs.Operators as operators;
-ghost use Rattle.dy_rules.specs.Roles as roles;
+ghost use Rattle.dy_rules.specs.Roles as rules;
 ghost use Rattle.dy_rules.specs.Trees as trees;
 ghost use Rattle.dy_rules.specs.Reading as reading;
 ghost use Rattle.dy_rules_depth.specs.Capping.{capped, capping};
@@ -11,17 +12,15 @@ ghost use Rattle.dy_read_operators.specs.Grown.{read_grown};
 ghost use Rattle.dy_read_operators.specs.Machines as spec;
 ghost use Rattle.dy_read_operators.specs.Outers.{seen_outer};
 ghost use Rattle.dy_read_operators.specs.Passed.{read_passed};
-ghost use Rattle.dy_read_words.specs.Seen.{seen_bracket, seen_precedence, seen_role, seen_splitting};
 
 use crate::grown::Grown;
 use crate::nodes::{call, element, literal, member, name};
 use crate::outer::{Entry, Outer, below, finish, integer_part, reduce};
 use crate::passed::Passed;
 use dy_read_types::literal::positive;
-use dy_read_words::bracket::Bracket;
-use dy_read_words::role::{Precedence, Role, role_of};
-use dy_read_words::splitter::{Splitting, splits};
-use dy_tree::{LiteralForm, Token};
+use dy_read_words::role::role_of;
+use dy_read_words::splitter::splits;
+use dy_tree::{Bracket, LiteralForm, Precedence, Role, Splitting, Token};
 use std::alloc::{AllocError, Global};
 
 /// What was read last.
@@ -79,8 +78,8 @@ fn named_operand(
     outer: Outer,
     token: &Token,
 ) -> Result<Option<Machine>, AllocError>
-    requires { roles.role_of token.now ≡ roles.named }
-    ensures { IfOk result (λ next. option_map spec.seen_machine next ≡ option_map (changed_state capping) (reading.name_if (roles.splits (seen_splitting words) token.now) token.now (seen_outer outer))) }
+    requires { rules.role_of token.now ≡ roles.Named }
+    ensures { IfOk result (λ next. option_map spec.seen_machine next ≡ option_map (changed_state capping) (reading.name_if (rules.splits words token.now) token.now (seen_outer outer))) }
 {
     if splits(words, token) {
         Ok(None)
@@ -108,8 +107,8 @@ fn at_operand(
     token: &Token,
     role: Role,
 ) -> Result<Option<Machine>, AllocError>
-    requires { seen_role role ≡ roles.role_of token.now }
-    ensures { IfOk result (λ next. option_map spec.seen_machine next ≡ option_map (changed_state capping) (reading.at_operand (seen_splitting words) (seen_outer outer) token.now (seen_role role))) }
+    requires { role ≡ rules.role_of token.now }
+    ensures { IfOk result (λ next. option_map spec.seen_machine next ≡ option_map (changed_state capping) (reading.at_operand words (seen_outer outer) token.now role)) }
 {
     match role {
         Role::Integer => Ok(Some(make_machine(State::Counted(token.copy()?), outer))),
@@ -133,7 +132,7 @@ fn operates(
     tree: Grown,
     outer: Outer,
 ) -> Result<Option<Machine>, AllocError>
-    ensures { IfOk result (λ next. option_map spec.seen_machine next ≡ Some (changed_state capping (reading.operates (seen_precedence precedence) sign.now (reading.reduced (suc (operators.below (seen_precedence precedence))) (read_grown tree) (seen_outer outer))))) }
+    ensures { IfOk result (λ next. option_map spec.seen_machine next ≡ Some (changed_state capping (reading.operates precedence sign.now (reading.reduced (suc (operators.below precedence)) (read_grown tree) (seen_outer outer))))) }
 {
     let mut outer = outer;
     let left = reduce(alloc, below(precedence) + 1, tree, &mut outer)?;
@@ -171,7 +170,7 @@ fn behind(
     token: &Token,
     role: Role,
 ) -> Result<Option<Machine>, AllocError>
-    ensures { IfOk result (λ next. option_map spec.seen_machine next ≡ option_map (changed_state capping) (reading.behind (read_grown tree, seen_outer outer) (read_grown tree, seen_outer outer) token.now (seen_role role))) }
+    ensures { IfOk result (λ next. option_map spec.seen_machine next ≡ option_map (changed_state capping) (reading.behind (read_grown tree, seen_outer outer) (read_grown tree, seen_outer outer) token.now role)) }
 {
     match role {
         Role::Operator(precedence) => operates(alloc, precedence, token, tree, outer),
@@ -189,7 +188,7 @@ fn integer_for(
     digits: &Token,
     outer: &mut Outer,
 ) -> Result<Grown, AllocError>
-    ensures { IfOk result (λ grown. (read_grown grown, seen_outer outer.new) ≡ spec.integer_for (seen_role role) digits.now (seen_outer outer.old)) }
+    ensures { IfOk result (λ grown. (read_grown grown, seen_outer outer.new) ≡ spec.integer_for role digits.now (seen_outer outer.old)) }
 {
     match role {
         Role::Dot => literal(alloc, positive(digits)?),
@@ -206,7 +205,7 @@ fn behind_integer(
     token: &Token,
     role: Role,
 ) -> Result<Option<Machine>, AllocError>
-    ensures { IfOk result (λ next. option_map spec.seen_machine next ≡ option_map (changed_state capping) (reading.behind (trees.literal (roles.positive digits), seen_outer outer) (reading.integer_part digits (seen_outer outer)) token.now (seen_role role))) }
+    ensures { IfOk result (λ next. option_map spec.seen_machine next ≡ option_map (changed_state capping) (reading.behind (trees.literal (rules.positive digits), seen_outer outer) (reading.integer_part digits (seen_outer outer)) token.now role)) }
 {
     let mut outer = outer;
     let tree = integer_for(alloc, role, &digits, &mut outer)?;
@@ -222,7 +221,7 @@ fn behind_dot(
     token: &Token,
     role: Role,
 ) -> Result<Option<Machine>, AllocError>
-    ensures { IfOk result (λ next. option_map spec.seen_machine next ≡ option_map (changed_state capping) (reading.behind_dot (seen_splitting words) (read_grown tree) (seen_outer outer) token.now (seen_role role))) }
+    ensures { IfOk result (λ next. option_map spec.seen_machine next ≡ option_map (changed_state capping) (reading.behind_dot words (read_grown tree) (seen_outer outer) token.now role)) }
 {
     match role {
         Role::Named => member_operand(alloc, words, tree, outer, token),
@@ -239,7 +238,7 @@ fn member_operand(
     outer: Outer,
     token: &Token,
 ) -> Result<Option<Machine>, AllocError>
-    ensures { IfOk result (λ next. option_map spec.seen_machine next ≡ option_map (changed_state capping) (reading.member_if (roles.splits (seen_splitting words) token.now) (read_grown tree) (seen_outer outer) token.now)) }
+    ensures { IfOk result (λ next. option_map spec.seen_machine next ≡ option_map (changed_state capping) (reading.member_if (rules.splits words token.now) (read_grown tree) (seen_outer outer) token.now)) }
 {
     if splits(words, token) {
         Ok(None)
@@ -261,7 +260,7 @@ fn in_brackets(outer: Outer, tree: Option<Grown>) -> Option<Machine>
 
 /// A group where an operand comes.
 fn group_at_operand(outer: Outer, bracket: Bracket, tree: Option<Grown>) -> Option<Machine>
-    ensures { option_map spec.seen_machine result ≡ option_map (changed_state capping) (reading.group_at_operand (seen_outer outer) (seen_bracket bracket) (option_map read_grown tree)) }
+    ensures { option_map spec.seen_machine result ≡ option_map (changed_state capping) (reading.group_at_operand (seen_outer outer) bracket (option_map read_grown tree)) }
 {
     match bracket {
         Bracket::Round => in_brackets(outer, tree),
@@ -324,7 +323,7 @@ fn group_behind(
     tree: Option<Grown>,
     passed: Option<Passed>,
 ) -> Result<Option<Machine>, AllocError>
-    ensures { IfOk result (λ next. option_map spec.seen_machine next ≡ option_map (changed_state capping) (reading.group_behind (read_grown object, seen_outer outer) opener.now (seen_bracket bracket) (option_map read_grown tree) (option_map read_passed passed))) }
+    ensures { IfOk result (λ next. option_map spec.seen_machine next ≡ option_map (changed_state capping) (reading.group_behind (read_grown object, seen_outer outer) opener.now bracket (option_map read_grown tree) (option_map read_passed passed))) }
 {
     match bracket {
         Bracket::Round => called(alloc, object, outer, opener, passed),
@@ -335,7 +334,7 @@ fn group_behind(
 
 /// What is to be read inside of a group that stands where an operand comes.
 pub fn need_at_operand(bracket: Bracket) -> Need
-    ensures { result ≡ spec.need_at_operand (seen_bracket bracket) }
+    ensures { result ≡ spec.need_at_operand bracket }
 {
     match bracket {
         Bracket::Round | Bracket::Hidden => Need::Tree,
@@ -346,7 +345,7 @@ pub fn need_at_operand(bracket: Bracket) -> Need
 
 /// What is to be read inside of a group that stands behind an operand.
 pub fn need_behind(bracket: Bracket) -> Need
-    ensures { result ≡ spec.need_behind (seen_bracket bracket) }
+    ensures { result ≡ spec.need_behind bracket }
 {
     match bracket {
         Bracket::Round => Need::Arguments,
@@ -368,7 +367,7 @@ impl Machine {
 
     /// What is to be read inside of a group that stands next.
     pub fn need(&self, bracket: Bracket) -> Need
-        ensures { result ≡ spec.need_of (spec.seen_machine self.now) (seen_bracket bracket) }
+        ensures { result ≡ spec.need_of (spec.seen_machine self.now) bracket }
     {
         match &self.state {
             State::Wants => need_at_operand(bracket),
@@ -385,7 +384,7 @@ impl Machine {
         words: Splitting,
         token: &Token,
     ) -> Result<Option<Machine>, AllocError>
-        ensures { IfOk result (λ next. option_map spec.seen_machine next ≡ option_map (changed_state capping) (reading.at_token (seen_splitting words) (spec.seen_machine self) token.now)) }
+        ensures { IfOk result (λ next. option_map spec.seen_machine next ≡ option_map (changed_state capping) (reading.at_token words (spec.seen_machine self) token.now)) }
     {
         let role = role_of(token);
         let Machine { state, outer } = self;
@@ -406,7 +405,7 @@ impl Machine {
         tree: Option<Grown>,
         passed: Option<Passed>,
     ) -> Result<Option<Machine>, AllocError>
-        ensures { IfOk result (λ next. option_map spec.seen_machine next ≡ option_map (changed_state capping) (reading.at_group (spec.seen_machine self) opener.now (seen_bracket bracket) (option_map read_grown tree) (option_map read_passed passed))) }
+        ensures { IfOk result (λ next. option_map spec.seen_machine next ≡ option_map (changed_state capping) (reading.at_group (spec.seen_machine self) opener.now bracket (option_map read_grown tree) (option_map read_passed passed))) }
     {
         let Machine { state, outer } = self;
         match state {

@@ -2,12 +2,14 @@
 use Rattle.std.proofs.Common.{◌≡◌, true, List, [], ◌∷◌, ◌++◌, Option, Some, option_map, option_and_then, refl, sym}
 use Rattle.dy_tree.specs.declared.token.Token.{Token}
 use Rattle.dy_tree.specs.Fragments.{SeenFragment, one, group}
+use Rattle.dy_tree.specs.declared.roles.Role.{Role}
+use Rattle.dy_tree.specs.declared.roles.Role.TheVariants as roles
 use Rattle.dy_rules.specs.Arguments.{is_comma, is_comma_fragment}
 use Rattle.dy_rules.specs.Blocks.{exit_token, exit_in}
 use Rattle.dy_rules.specs.Definitions.{is_setter}
 use Rattle.dy_rules.specs.FormReading.{with_name, names_behind, names_in, setter_if, setter_in, symbol_of, symbol_in}
 use Rattle.dy_rules.specs.Forms.{SlotOption}
-use Rattle.dy_rules.specs.Roles.{Role, named, role_of}
+use Rattle.dy_rules.specs.Roles.{role_of}
 use Rattle.dy_rules.specs.TypeReading.{named_token, name_in}
 use Rattle.dy_rules.proofs.Lists.{some_one}
 use Rattle.dy_read_words.specs.Alone.{token_alone}
@@ -36,7 +38,7 @@ setter_alone (group opener inner closer ∷ []) = refl
 setter_alone (group opener inner closer ∷ second ∷ rest) = refl
 
 exit_name : (role : Role) (token : Token) → exit_token role token ≡ option_map Some (named_token role token)
-exit_name named token = refl
+exit_name roles.Named token = refl
 exit_name role token = refl
 
 pub exit_alone : (only : SeenFragment) → exit_in (only ∷ []) ≡ option_map Some (name_at only)
@@ -48,7 +50,7 @@ name_behind mark (one token) = refl
 name_behind mark (group opener inner closer) = refl
 
 names_more : (role : Role) (token name : Token) (others : Option (List Token)) → Some name ≡ named_token role token → with_name role token others ≡ option_map (λ names. name ∷ names) others
-names_more named token name others e = rw (some_one name token e) refl
+names_more roles.Named token name others e = rw (some_one name token e) refl
 names_more role token name others e = absurd cc
 
 -- a name and a comma more

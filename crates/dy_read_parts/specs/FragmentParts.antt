@@ -2,11 +2,11 @@
 use Rattle.std.specs.Prelude.{◌≡◌, ◌<◌, ⊤, List}
 use Rattle.dy_tree.specs.declared.token.Token.{Token}
 use Rattle.dy_tree.specs.Fragments.{SeenFragment, one, group, row, seen_fragments}
-use Rattle.dy_rules.specs.Roles.{Bracket, bracket_of}
+use Rattle.dy_tree.specs.declared.brackets.Bracket.{Bracket}
+use Rattle.dy_rules.specs.Roles.{bracket_of}
 use Rattle.dy_read_parts.specs.declared.part.Part.{Part}
 use Rattle.dy_read_parts.specs.declared.part.Part.TheVariants as parts
 use Rattle.dy_read_parts.specs.Nesting.{group_nesting, nesting}
-use Rattle.dy_read_words.specs.Seen.{seen_bracket}
 
 pub data SeenPart : Type 0 where
   token_part : (token : Token) → SeenPart
@@ -18,7 +18,7 @@ part_of (group opener inner closer) = group_part (bracket_of opener closer) open
 
 abbrev pub seen_part : Part → SeenPart
 seen_part (parts.One token) = token_part token.now
-seen_part (parts.Group bracket opener inner) = group_part (seen_bracket bracket) opener.now (seen_fragments inner.now)
+seen_part (parts.Group bracket opener inner) = group_part bracket opener.now (seen_fragments inner.now)
 
 -- what stands inside is nested less deep
 abbrev pub IsShallower : Part → SeenFragment → Type 0

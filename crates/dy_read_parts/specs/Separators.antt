@@ -6,13 +6,12 @@ use Rattle.dy_rules.specs.Arguments.{is_comma_fragment}
 use Rattle.dy_rules.specs.Cutting.{is_semicolon, is_arrow, is_splitter}
 use Rattle.dy_read_parts.specs.declared.separator.Separator.{Separator}
 use Rattle.dy_read_parts.specs.declared.separator.Separator.TheVariants as separators
-use Rattle.dy_read_words.specs.Seen.{seen_splitting}
 
 abbrev pub separates : Separator → SeenFragment → Bool
 separates separators.Comma = is_comma_fragment
 separates separators.Semicolon = is_semicolon
 separates separators.Arrow = is_arrow
-separates (separators.Splitter words) = is_splitter (seen_splitting words)
+separates (separators.Splitter words) = is_splitter words
 
 abbrev pub separates_at : Separator → Token → Bool
 separates_at separator token = separates separator (one token)

@@ -3,12 +3,12 @@
 ghost use Rattle.std.specs.Prelude.{◌≡◌, ◌∷◌};
 ghost use Rattle.dy_tree.specs.Fragments.{pack, seen_fragment, seen_fragments};
 ghost use Rattle.dy_rules.specs.FormReading as spec;
-ghost use Rattle.dy_rules.specs.Roles as roles;
+ghost use Rattle.dy_rules.specs.Roles as rules;
 ghost use Rattle.dy_read_parts.specs.FormFront.{seen_form_front};
 
-use dy_read_words::bracket::{Bracket, Keyword, bracket_of};
-use dy_read_words::role::{Role, role_of};
-use dy_tree::{Fragment, Token};
+use dy_read_words::bracket::bracket_of;
+use dy_read_words::role::role_of;
+use dy_tree::{Bracket, Fragment, Keyword, Role, Token};
 
 /// How a form begins.
 #[derive(Clone, Copy, Debug)]
@@ -27,7 +27,7 @@ pub enum FormFront<'a> {
 }
 
 fn front_of_group<'a>(opener: &'a Token, inner: &'a [Fragment], closer: &'a Token) -> FormFront<'a>
-    ensures { seen_form_front result ≡ spec.front_of_group (roles.bracket_of opener.now closer.now) opener.now (pack (seen_fragments inner.now)) }
+    ensures { seen_form_front result ≡ spec.front_of_group (rules.bracket_of opener.now closer.now) opener.now (pack (seen_fragments inner.now)) }
 {
     match bracket_of(opener, closer) {
         Bracket::Statement(Keyword::Define) => FormFront::Group {
@@ -39,7 +39,7 @@ fn front_of_group<'a>(opener: &'a Token, inner: &'a [Fragment], closer: &'a Toke
 }
 
 fn front_of_token<'a>(token: &'a Token, rest: &'a [Fragment]) -> FormFront<'a>
-    ensures { seen_form_front result ≡ spec.front_of_token (roles.role_of token.now) token.now (seen_fragments rest.now) }
+    ensures { seen_form_front result ≡ spec.front_of_token (rules.role_of token.now) token.now (seen_fragments rest.now) }
 {
     match role_of(token) {
         Role::Defines => FormFront::Flat {

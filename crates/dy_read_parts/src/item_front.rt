@@ -5,8 +5,8 @@ ghost use Rattle.dy_tree.specs.Fragments.{seen_fragment};
 ghost use Rattle.dy_rules.specs.Bodies as spec;
 ghost use Rattle.dy_read_parts.specs.ItemFront.{seen_item_front};
 
-use dy_read_words::role::{Role, role_of};
-use dy_tree::{Fragment, Token};
+use dy_read_words::role::role_of;
+use dy_tree::{Fragment, Role, Token};
 
 /// How an item of a body begins.
 #[derive(Clone, Copy, Debug)]

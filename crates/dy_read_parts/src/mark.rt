@@ -1,20 +1,18 @@
 //! What one fragment is. A group is none of these.
 
 ghost use Rattle.std.specs.Prelude.{◌≡◌};
-ghost use Rattle.dy_tree.specs.Fragments.{seen_fragment, seen_fragments};
+ghost use Rattle.dy_tree.specs.Fragments.{seen_fragment};
 ghost use Rattle.dy_rules.specs.Bodies as bodies;
 ghost use Rattle.dy_rules.specs.Choices as choices;
 ghost use Rattle.dy_rules.specs.Cutting as cutting;
-ghost use Rattle.dy_rules.specs.Fragments.{items_of};
 ghost use Rattle.dy_rules.specs.Loops as loops;
 ghost use Rattle.dy_rules.specs.Signatures as signatures;
 ghost use Rattle.dy_rules.specs.TypeReading as types;
-ghost use Rattle.dy_read_words.specs.Seen.{seen_splitter};
 
-use dy_read_words::role::{Role, role_of};
-use dy_read_words::sign::{is_equals, is_identity, is_stop_word};
-use dy_read_words::splitter::{Splitter, splitter_of};
-use dy_tree::Fragment;
+use dy_read_words::role::role_of;
+use dy_read_words::sign::{is_equals, is_identity};
+use dy_read_words::splitter::splitter_of;
+use dy_tree::{Fragment, Role, Splitter};
 
 /// Whether a fragment is `=`.
 pub fn is_equals_at(fragment: &Fragment) -> bool
@@ -51,26 +49,9 @@ pub fn is_remains(fragment: &Fragment) -> bool
     matches!(fragment, Fragment::One(token) if matches!(role_of(token), Role::Remains))
 }
 
-/// Whether a fragment is `while:` or `until:`.
-pub fn is_stop_at(fragment: &Fragment) -> bool
-    ensures { result ≡ loops.is_stop_at (seen_fragment fragment.now) }
-{
-    matches!(fragment, Fragment::One(token) if is_stop_word(token))
-}
-
-/// Whether the test that ends a loop stands here.
-pub fn is_stop(fragments: &[Fragment]) -> bool
-    ensures { result ≡ loops.is_stop (items_of (seen_fragments fragments.now)) }
-{
-    match fragments.split_first() {
-        Some((first, _)) => is_stop_at(first),
-        None => false,
-    }
-}
-
 /// The word that a fragment is.
 pub fn word_of(fragment: &Fragment) -> Splitter
-    ensures { seen_splitter result ≡ cutting.word_of (seen_fragment fragment.now) }
+    ensures { result ≡ cutting.word_of (seen_fragment fragment.now) }
 {
     match fragment {
         Fragment::One(token) => splitter_of(token),

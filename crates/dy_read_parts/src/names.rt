@@ -13,8 +13,8 @@ use crate::front::Front;
 use crate::separator::{Separator, separates};
 use dy_read_words::alone::{token_alone, token_of};
 use dy_read_words::option_word::is_setter;
-use dy_read_words::role::{Role, role_of};
-use dy_tree::{Fragment, SlotOption, Token};
+use dy_read_words::role::role_of;
+use dy_tree::{Fragment, Role, SlotOption, Token};
 use std::alloc::{AllocError, Global};
 
 /// The name that a fragment is.

@@ -3,15 +3,14 @@
 ghost use Rattle.std.specs.Prelude.{◌≡◌};
 ghost use Rattle.dy_tree.specs.Fragments.{seen_fragment};
 ghost use Rattle.dy_rules.specs.Arguments as spec;
-ghost use Rattle.dy_read_words.specs.Seen.{seen_bracket, seen_role};
 
-use dy_read_words::bracket::{Bracket, bracket_of};
-use dy_read_words::role::{Role, role_of};
-use dy_tree::Fragment;
+use dy_read_words::bracket::bracket_of;
+use dy_read_words::role::role_of;
+use dy_tree::{Bracket, Fragment, Role};
 
 /// Whether such a token behind an operand can only begin another one.
 pub fn begins_operand(role: Role) -> bool
-    ensures { result ≡ spec.begins_operand (seen_role role) }
+    ensures { result ≡ spec.begins_operand role }
 {
     match role {
         Role::Integer | Role::Character | Role::Text => true,
@@ -21,7 +20,7 @@ pub fn begins_operand(role: Role) -> bool
 }
 
 fn group_begins_operand(bracket: Bracket) -> bool
-    ensures { result ≡ spec.group_begins_operand (seen_bracket bracket) }
+    ensures { result ≡ spec.group_begins_operand bracket }
 {
     match bracket {
         Bracket::Hidden | Bracket::SharpRound | Bracket::SharpSquare => true,

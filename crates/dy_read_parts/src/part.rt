@@ -4,8 +4,8 @@ ghost use Rattle.std.specs.Prelude.{◌≡◌};
 ghost use Rattle.dy_tree.specs.Fragments.{seen_fragment};
 ghost use Rattle.dy_read_parts.specs.FragmentParts as spec;
 
-use dy_read_words::bracket::{Bracket, bracket_of};
-use dy_tree::{Fragment, Token};
+use dy_read_words::bracket::bracket_of;
+use dy_tree::{Bracket, Fragment, Token};
 
 /// A token, or what stands between brackets of one sort.
 #[derive(Clone, Copy, Debug)]

@@ -4,11 +4,10 @@ ghost use Rattle.std.specs.Prelude.{◌≡◌};
 ghost use Rattle.dy_tree.specs.Fragments.{seen_fragment};
 ghost use Rattle.dy_rules.specs.Cutting.{is_let};
 ghost use Rattle.dy_read_parts.specs.Separators.{separates, separates_at};
-ghost use Rattle.dy_read_words.specs.Seen.{seen_splitting};
 
-use dy_read_words::role::{Role, role_of};
-use dy_read_words::splitter::{Splitting, splits};
-use dy_tree::{Fragment, Token};
+use dy_read_words::role::role_of;
+use dy_read_words::splitter::splits;
+use dy_tree::{Fragment, Role, Splitting, Token};
 
 /// What parts are separated by.
 #[derive(Clone, Copy, Debug, PartialEq, Eq)]

@@ -4,16 +4,15 @@ ghost use Rattle.std.specs.Prelude.{◌≡◌};
 ghost use Rattle.std.specs.List.{list_any};
 ghost use Rattle.dy_tree.specs.Fragments.{seen_fragment, seen_fragments};
 ghost use Rattle.dy_rules.specs.Arguments as spec;
-ghost use Rattle.dy_read_words.specs.Seen.{seen_bracket, seen_role};
 
 use crate::operand::{begins_operand, only_begins_operand};
 use crate::separator::{Separator, separates};
-use dy_read_words::bracket::{Bracket, bracket_of};
-use dy_read_words::role::{Role, role_of};
-use dy_tree::Fragment;
+use dy_read_words::bracket::bracket_of;
+use dy_read_words::role::role_of;
+use dy_tree::{Bracket, Fragment, Role};
 
 fn is_symbol(role: Role) -> bool
-    ensures { result ≡ spec.is_symbol (seen_role role) }
+    ensures { result ≡ spec.is_symbol role }
 {
     matches!(role, Role::Symbol)
 }
@@ -53,7 +52,7 @@ fn is_single(fragments: &[Fragment]) -> bool
 }
 
 fn group_begins_value(bracket: Bracket, inner: &[Fragment]) -> bool
-    ensures { result ≡ spec.group_begins_value (seen_bracket bracket) (seen_fragments inner.now) }
+    ensures { result ≡ spec.group_begins_value bracket (seen_fragments inner.now) }
 {
     match bracket {
         Bracket::Round => is_single(inner),
@@ -64,7 +63,7 @@ fn group_begins_value(bracket: Bracket, inner: &[Fragment]) -> bool
 }
 
 pub fn role_begins_value(role: Role) -> bool
-    ensures { result ≡ spec.role_begins_value (seen_role role) }
+    ensures { result ≡ spec.role_begins_value role }
 {
     matches!(role, Role::Minus) || begins_operand(role)
 }
@@ -80,15 +79,5 @@ pub fn begins_value(fragment: &Fragment) -> bool
             inner,
             closer,
         } => group_begins_value(bracket_of(opener, closer), inner.as_slice()),
-    }
-}
-
-/// Whether a symbol at the front is passed with the value behind it.
-pub fn passes_two(fragments: &[Fragment]) -> bool
-    ensures { result ≡ spec.passes_two (seen_fragments fragments.now) }
-{
-    match fragments {
-        [Fragment::One(token), second, ..] => is_symbol(role_of(token)) && begins_value(second),
-        _ => false,
     }
 }

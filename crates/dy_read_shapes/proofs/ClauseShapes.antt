@@ -1,8 +1,8 @@
 -- A clause of a `for` with its variable in front.
 use Rattle.std.proofs.Common.{◌≡◌, ◌≤◌, ℕ, Bool, List, [], ◌∷◌, ◌++◌, Option, Some, None, option_map, option_and_then, refl, sym, ap, ◌∙◌, arith}
 use Rattle.dy_tree.specs.Fragments.{SeenFragment, seen_fragments}
+use Rattle.dy_tree.specs.declared.splitters.Splitting.TheVariants as splittings
 use Rattle.dy_rules.specs.Types.{VariableTree, binds_plainly}
-use Rattle.dy_rules.specs.Roles.{steps}
 use Rattle.dy_rules.specs.Cutting.{Piece, fragments_in}
 use Rattle.dy_rules.specs.Fragments.{items_of}
 use Rattle.dy_rules.specs.Loops.{clause_behind, clause_with, clause_if, clause_pieces}
@@ -52,7 +52,7 @@ front_within n fragments None e le = tt
 front_within n fragments (Some front) e le = let h = found_within fragments front (reading.variable_front (items_of fragments)) refl e in omega arith
 
 -- the clause in pieces, where it is known whether a word splits it behind its variable
-pub plainly_read : (plainly : Bool) (pieces : FoundPieces) (first : List SeenFragment) → seen_fragments pieces.first.now ≡ first → binds_plainly steps first ≡ plainly
+pub plainly_read : (plainly : Bool) (pieces : FoundPieces) (first : List SeenFragment) → seen_fragments pieces.first.now ≡ first → binds_plainly splittings.Steps first ≡ plainly
     → option_map (changed_for capping) (clause_if plainly (seen_pieces pieces)) ≡ option_map (changed_for capping) (clause_pieces (seen_pieces pieces))
 plainly_read plainly pieces first same is =
-    ap (λ (b : Bool). option_map (changed_for capping) (clause_if b (seen_pieces pieces))) (sym (ap (binds_plainly steps) (fragments_back (seen_fragments pieces.first.now) ∙ same) ∙ is))
+    ap (λ (b : Bool). option_map (changed_for capping) (clause_if b (seen_pieces pieces))) (sym (ap (binds_plainly splittings.Steps) (fragments_back (seen_fragments pieces.first.now) ∙ same) ∙ is))

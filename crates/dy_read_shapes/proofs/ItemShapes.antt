@@ -3,11 +3,12 @@ use Rattle.std.proofs.Common.{◌≡◌, ◌==◌, length, Bool, false, List, []
 use Rattle.dy_tree.specs.declared.token.Token.{Token}
 use Rattle.dy_tree.specs.declared.fragment.Fragment.{Fragment}
 use Rattle.dy_tree.specs.Fragments.{SeenFragment, one, group, seen_fragments}
+use Rattle.dy_tree.specs.declared.splitters.Splitting.{Splitting}
 use Rattle.dy_rules.specs.Bodies.{is_handler, is_equals_at, bound_from, let_if, let_sides, method_alone, method_at, method_in}
 use Rattle.dy_rules.specs.Cutting.{Item, Sides, first_cut}
 use Rattle.dy_rules.specs.Fragments.{items_of, found_in}
 use Rattle.dy_rules.specs.Reading.{expression_items}
-use Rattle.dy_rules.specs.Roles.{Splitting, bracket_of}
+use Rattle.dy_rules.specs.Roles.{bracket_of}
 use Rattle.dy_rules.specs.Signatures.{named_items}
 use Rattle.dy_rules.specs.Trees.{LocalMethod}
 use Rattle.dy_rules.specs.Types.{binds_plainly}

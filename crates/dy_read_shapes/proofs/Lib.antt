@@ -8,4 +8,3 @@ pub mod LoopNesting
 pub mod LoopShapes
 pub mod PieceNesting
 pub mod RequiredParts
-pub mod Steps

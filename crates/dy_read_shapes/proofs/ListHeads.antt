@@ -9,10 +9,9 @@ use Rattle.dy_rules.specs.Productions.{list_of}
 use Rattle.dy_rules.specs.Signatures.{required_items, with_next, with_rest, after_next, after_rest, after_required}
 use Rattle.dy_rules.specs.Trees.{KeysTree, Listed}
 use Rattle.dy_rules.specs.Types.{RequiredTree, required_variable, required_single}
-use Rattle.dy_read_words.specs.declared.part_word.PartWord.{PartWord}
-use Rattle.dy_read_words.specs.declared.part_word.PartWord.TheVariants as parts
+use Rattle.dy_tree.specs.declared.type_words.PartWord.{PartWord}
+use Rattle.dy_tree.specs.declared.type_words.PartWord.TheVariants as parts
 use Rattle.dy_read_shapes.specs.ListParts.{plain_part}
-use Rattle.dy_read_words.specs.Seen.{seen_part_word}
 use Rattle.dy_read_shapes.specs.ListHeads.{capped_listed, read_each_required, rest_each, next_each, required_each, each_before}
 use Rattle.dy_read_shapes.specs.ReadRequired.{read_required, capped_required}
 
@@ -159,7 +158,7 @@ required_changed (Some required) None = refl
 required_changed (Some required) (Some found) = refl
 
 -- a part without a mark
-pub plain_required : (word : PartWord) → (word ≡ parts.Next → ⊥) → (word ≡ parts.Rest → ⊥) → (items : List Item) (found : Option Listed) → option_and_then (after_required found) (required_items items) ≡ plain_part (seen_part_word word) items found
+pub plain_required : (word : PartWord) → (word ≡ parts.Next → ⊥) → (word ≡ parts.Rest → ⊥) → (items : List Item) (found : Option Listed) → option_and_then (after_required found) (required_items items) ≡ plain_part word items found
 plain_required parts.Next not_next not_rest items found = absurd (not_next refl)
 plain_required parts.Rest not_next not_rest items found = absurd (not_rest refl)
 plain_required parts.Key not_next not_rest items found = refl

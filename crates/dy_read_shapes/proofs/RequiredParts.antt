@@ -2,7 +2,9 @@
 use Rattle.std.proofs.Common.{◌≡◌, ◌∙◌, ap, Option, Some, None, option_map, option_and_then, refl}
 use Rattle.dy_tree.specs.declared.token.Token.{Token}
 use Rattle.dy_tree.specs.Fragments.{SeenFragment, one, group}
-use Rattle.dy_rules.specs.Roles.{Role, named, role_of}
+use Rattle.dy_tree.specs.declared.roles.Role.{Role}
+use Rattle.dy_tree.specs.declared.roles.Role.TheVariants as roles
+use Rattle.dy_rules.specs.Roles.{role_of}
 use Rattle.dy_rules.specs.Signatures.{single_named, single_at}
 use Rattle.dy_rules.specs.Types.{Single, VariableTree, RequiredTree, required_variable, required_single}
 use Rattle.dy_rules.specs.TypeReading.{named_token}
@@ -15,7 +17,7 @@ abbrev pub compared : Option Single → Token → Option RequiredTree
 compared single token = option_map (required_single token) single
 
 by_role : (role : Role) (token : Token) (single : Option Single) → single_named role token single ≡ option_and_then (compared single) (named_token role token)
-by_role named token single = refl
+by_role roles.Named token single = refl
 by_role role token single = refl
 
 by_name : (parameter : SeenFragment) (single : Option Single) → single_at parameter single ≡ option_and_then (compared single) (name_at parameter)

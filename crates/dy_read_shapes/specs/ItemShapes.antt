@@ -2,12 +2,12 @@
 use Rattle.std.specs.Prelude.{◌≤◌, ◌<◌, ⊤, ℕ, false, List, Option, Some, None, option_map, option_and_then}
 use Rattle.dy_tree.specs.declared.token.Token.{Token}
 use Rattle.dy_tree.specs.Fragments.{seen_fragments}
+use Rattle.dy_tree.specs.declared.splitters.Splitting.{Splitting}
 use Rattle.dy_rules.specs.Arguments.{is_comma_fragment}
 use Rattle.dy_rules.specs.Bodies.{let_of, handler_of, local_of, method_tree_of, method_alone}
 use Rattle.dy_rules.specs.Cutting.{Item, cut, each}
 use Rattle.dy_rules.specs.Fragments.{items_of}
 use Rattle.dy_rules.specs.Reading.{expression_items}
-use Rattle.dy_rules.specs.Roles.{Splitting}
 use Rattle.dy_rules.specs.Signatures.{named_items}
 use Rattle.dy_rules.specs.Trees.{Tree, ItemTree, expression_item, LocalMethod}
 use Rattle.dy_rules.specs.Types.{TypeTree, TargetTree}

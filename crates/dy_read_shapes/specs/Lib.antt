@@ -1,11 +1,9 @@
 pub mod ClauseShapes
-pub mod Held
 pub mod ItemShapes
 pub mod KeyEndings
 pub mod ListHeads
 pub mod ListParts
 pub mod LoopShapes
-pub mod Parts
 pub mod PieceNesting
 pub mod ReadKeys
 pub mod ReadRequired

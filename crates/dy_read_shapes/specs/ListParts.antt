@@ -3,27 +3,27 @@ use Rattle.std.specs.Prelude.{◌≤◌, ⊤, ℕ, Bool, true, false, List, [], 
 use Rattle.std.specs.Borrow.{Bor}
 use Rattle.dy_tree.specs.declared.fragment.Fragment.{Fragment}
 use Rattle.dy_tree.specs.Fragments.{SeenFragment, seen_fragments}
+use Rattle.dy_tree.specs.declared.type_words.PartWord.{PartWord}
+use Rattle.dy_tree.specs.declared.type_words.PartWord.TheVariants as part_words
 use Rattle.dy_rules.specs.Arguments.{is_comma_fragment}
 use Rattle.dy_rules.specs.Cutting.{Item, cut}
 use Rattle.dy_rules.specs.Fragments.{items_of}
 use Rattle.dy_rules.specs.Signatures.{required_items, listed_keys, part_kind, no_list, after_next, after_rest, after_required, listed_pieces}
 use Rattle.dy_rules.specs.Trees.{Listed}
-use Rattle.dy_rules.specs.Types.{PartWord, next_word, rest_word, key_word, no_part_word}
 use Rattle.dy_rules.specs.TypeReading.{name_items}
 use Rattle.dy_read_shapes.specs.declared.list_part.ListPart.{ListPart}
 use Rattle.dy_read_shapes.specs.declared.list_part.ListPart.TheVariants as parts
 use Rattle.dy_read_parts.specs.Nesting.{nesting}
 use Rattle.dy_read_parts.specs.Pieces.{IsWithin, left}
 use Rattle.dy_read_shapes.specs.ReadKeys.{keys_behind_mark}
-use Rattle.dy_read_words.specs.Seen.{seen_part_word}
 
 abbrev pub is_key_word : PartWord → Bool
-is_key_word key_word = true
+is_key_word part_words.Key = true
 is_key_word _ = false
 
 -- the mark in front
 abbrev pub front_word : List SeenFragment → PartWord
-front_word [] = no_part_word
+front_word [] = part_words.Absent
 front_word (first ∷ rest) = part_kind first
 
 -- the parameters of a list that is not empty
@@ -37,8 +37,8 @@ listed_left (Some slice) = listed_parts (seen_fragments slice.now)
 
 -- a part that isn't `#key`, and the parameters behind it
 abbrev pub plain_part : PartWord → List Item → Option Listed → Option Listed
-plain_part next_word items found = option_and_then (after_next found) (name_items items)
-plain_part rest_word items found = option_and_then (after_rest found) (name_items items)
+plain_part part_words.Next items found = option_and_then (after_next found) (name_items items)
+plain_part part_words.Rest items found = option_and_then (after_rest found) (name_items items)
 plain_part _ items found = option_and_then (after_required found) (required_items items)
 
 -- what stands behind `#key` as parameters
@@ -46,7 +46,7 @@ abbrev pub keys_listed : List SeenFragment → Option Listed
 keys_listed fragments = option_map listed_keys (keys_behind_mark (cut is_comma_fragment false (items_of fragments)))
 
 abbrev pub part_read : ListPart → Option Listed
-part_read (parts.One word piece behind) = plain_part (seen_part_word word) (items_of (seen_fragments piece.now)) (listed_left behind)
+part_read (parts.One word piece behind) = plain_part word (items_of (seen_fragments piece.now)) (listed_left behind)
 part_read (parts.Keys behind) = keys_listed (seen_fragments behind.now)
 part_read parts.Nothing = None
 

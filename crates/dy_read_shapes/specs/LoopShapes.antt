@@ -1,9 +1,9 @@
 -- What the parts of a clause of a `for` stand for, with the deep tree in the place of what is too deep.
 use Rattle.std.specs.Prelude.{◌≤◌, ⊤, ℕ, max, List, map, Option, Some, None, option_map, option_and_then}
 use Rattle.dy_tree.specs.Fragments.{SeenFragment, seen_fragments}
+use Rattle.dy_tree.specs.declared.splitters.Splitting.TheVariants as splittings
 use Rattle.dy_rules.specs.Types.{VariableTree}
 use Rattle.dy_rules.specs.Trees.{Tree, ForClause, Otherwise, no_otherwise, no_limit, no_tree}
-use Rattle.dy_rules.specs.Roles.{steps, last_part}
 use Rattle.dy_rules.specs.Reading.{expression_items}
 use Rattle.dy_rules.specs.Bodies.{body_items}
 use Rattle.dy_rules.specs.Loops.{Range, range_of, step_of, limit_with, then_of, in_of, from_with, finally_of}
@@ -20,7 +20,7 @@ use Rattle.dy_read_shapes.specs.declared.loop_shape.ClauseParts.TheVariants as p
 
 -- the expression that fragments of a clause stand for
 abbrev pub step_tree : List SeenFragment → Option Tree
-step_tree fragments = option_map capped (expression_items steps (items_of fragments))
+step_tree fragments = option_map capped (expression_items splittings.Steps (items_of fragments))
 
 abbrev pub step_read : LastPiece → Option Range
 step_read lasts.Nothing = Some (range_of no_limit no_tree)
@@ -29,7 +29,7 @@ step_read lasts.Wrong = None
 
 abbrev pub finally_read : LastPiece → Option Otherwise
 finally_read lasts.Nothing = Some no_otherwise
-finally_read (lasts.Part fragments) = option_map finally_of (option_map (map (changed_item capping)) (body_items last_part (items_of (seen_fragments fragments.now))))
+finally_read (lasts.Part fragments) = option_map finally_of (option_map (map (changed_item capping)) (body_items splittings.LastPart (items_of (seen_fragments fragments.now))))
 finally_read lasts.Wrong = None
 
 -- The step stands in all of the pieces where there is no limit, and else in those behind it.

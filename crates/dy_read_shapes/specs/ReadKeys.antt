@@ -10,10 +10,10 @@ use Rattle.dy_rules.specs.Arguments.{is_comma_fragment}
 use Rattle.dy_rules.specs.Cutting.{Item, Pieces, cut, fragments_in}
 use Rattle.dy_rules.specs.Marks.{comma_mark}
 use Rattle.dy_tree.specs.Fragments.{SeenFragment, seen_fragments}
+use Rattle.dy_tree.specs.declared.splitters.Splitting.TheVariants as splittings
 use Rattle.dy_rules.specs.Depth.{key_depth, keys_depth}
 use Rattle.dy_rules.specs.Fragments.{items_of}
 use Rattle.dy_rules.specs.Reading.{expression_items}
-use Rattle.dy_rules.specs.Roles.{nothing}
 use Rattle.dy_rules.specs.Signatures.{initial_of, is_all_keys, key_items, keys_of_found, with_key, keys_in, keys_from}
 use Rattle.dy_rules.specs.Trees as trees
 use Rattle.dy_rules.specs.Trees.{MaybeTree, no_tree, some_tree, KeysTree, keys_of}
@@ -23,14 +23,14 @@ use Rattle.dy_read_operators.specs.declared.grown.Grown.{Grown}
 use Rattle.dy_read_shapes.specs.declared.initial.Initial.{Initial}
 use Rattle.dy_read_shapes.specs.declared.initial.Initial.TheVariants as initials
 use Rattle.dy_read_operators.specs.Grown.{read_grown}
-use Rattle.dy_read_shapes.specs.Held.{seen_key}
+use Rattle.dy_rules.specs.Held.{held_key}
 use Rattle.dy_read_parts.specs.Nesting.{nesting}
 
 -- defaults
 
 abbrev pub initial_read : Initial → Option MaybeTree
 initial_read initials.Absent = Some no_tree
-initial_read (initials.Value value) = option_map initial_of (expression_items nothing (items_of (seen_fragments value.now)))
+initial_read (initials.Value value) = option_map initial_of (expression_items splittings.Nothing (items_of (seen_fragments value.now)))
 initial_read initials.Wrong = None
 
 abbrev pub IsInitialWithin : ℕ → Initial → Type 0
@@ -51,7 +51,7 @@ abbrev pub label_token : Option (Bor Token) → Option Token
 label_token label = option_map (λ (token : Bor Token). token.now) label
 
 abbrev pub read_key : Key → trees.Key
-read_key form = changed_key filling (seen_key form)
+read_key form = changed_key filling (held_key form)
 
 abbrev pub read_each_key : List Key → List trees.Key
 read_each_key forms = map read_key forms

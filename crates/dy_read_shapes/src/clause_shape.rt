@@ -17,8 +17,7 @@ use dy_read_parts::binding::binds_plainly;
 use dy_read_parts::pieces::{Piece, cut};
 use dy_read_parts::separator::Separator;
 use dy_read_types::variables::{VariableFront, variable_front};
-use dy_read_words::splitter::Splitting;
-use dy_tree::{Fragment, Variable};
+use dy_tree::{Fragment, Splitting, Variable};
 use std::alloc::{AllocError, Global};
 
 /// The variable of a clause, and what stands behind it.

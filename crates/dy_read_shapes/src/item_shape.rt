@@ -2,23 +2,20 @@
 
 ghost use Rattle.std.specs.Prelude.{◌≡◌, ◌<◌, ◌≤◌, ℕ, option_and_then};
 ghost use Rattle.dy_tree.specs.Fragments.{seen_fragment, seen_fragments};
+ghost use Rattle.dy_tree.specs.declared.splitters.Splitting.{Splitting};
 ghost use Rattle.dy_rules.specs.Bodies as spec;
 ghost use Rattle.dy_rules.specs.Cutting.{first_cut};
 ghost use Rattle.dy_rules.specs.Fragments.{items_of, found_in};
-ghost use Rattle.dy_rules.specs.Roles as roles;
 ghost use Rattle.dy_rules.specs.Signatures.{named_items};
 ghost use Rattle.dy_read_shapes.specs.ItemShapes.{shape_read, IsShapeWithin, method_read, IsMethodShallower};
 ghost use Rattle.dy_read_parts.specs.Nesting.{group_nesting, nesting};
-ghost use Rattle.dy_read_words.specs.Seen.{seen_bracket, seen_splitting};
 
 use dy_read_parts::binding::binds_plainly;
 use dy_read_parts::item_front::{ItemFront, front_of_item};
 use dy_read_parts::mark::is_handler;
 use dy_read_parts::part::{Part, part_of};
 use dy_read_parts::sides::{Sides, sides_of_equals};
-use dy_read_words::bracket::{Bracket, Keyword};
-use dy_read_words::splitter::Splitting;
-use dy_tree::{Fragment, Token};
+use dy_tree::{Bracket, Fragment, Keyword, Splitting, Token};
 
 /// How an item of a body is divided.
 #[derive(Clone, Copy, Debug)]
@@ -47,7 +44,7 @@ pub enum ItemShape<'a> {
 
 /// What is bound, by what stands on both sides of its `=`.
 fn bound_shape<'a>(word: &'a Token, sides: Sides<'a>) -> ItemShape<'a>
-    ensures shape { (words : roles.Splitting) → spec.bound_from words word.now (items_of (seen_fragments sides.entry.before.now)) (items_of (seen_fragments sides.entry.after.now)) ≡ shape_read words result }
+    ensures shape { (words : Splitting) → spec.bound_from words word.now (items_of (seen_fragments sides.entry.before.now)) (items_of (seen_fragments sides.entry.after.now)) ≡ shape_read words result }
     ensures nested { (n : ℕ) → nesting (seen_fragments sides.entry.before.now) ≤ n → nesting (seen_fragments sides.entry.after.now) ≤ n → IsShapeWithin n result }
 {
     match sides.before.split_first() {
@@ -72,7 +69,7 @@ fn bound_shape<'a>(word: &'a Token, sides: Sides<'a>) -> ItemShape<'a>
 
 /// What stands behind a `let`.
 fn let_shape<'a>(words: Splitting, word: &'a Token, rest: &'a [Fragment]) -> ItemShape<'a>
-    ensures shape { option_and_then (spec.let_sides (seen_splitting words) word.now) (first_cut spec.is_equals_at (items_of (seen_fragments rest.now))) ≡ shape_read (seen_splitting words) result }
+    ensures shape { option_and_then (spec.let_sides words word.now) (first_cut spec.is_equals_at (items_of (seen_fragments rest.now))) ≡ shape_read words result }
     ensures nested { IsShapeWithin (nesting (seen_fragments rest.now)) result }
 {
     match sides_of_equals(rest) {
@@ -89,7 +86,7 @@ fn let_shape<'a>(words: Splitting, word: &'a Token, rest: &'a [Fragment]) -> Ite
 
 /// How an item of a body is divided.
 pub fn item_shape<'a>(words: Splitting, fragments: &'a [Fragment]) -> ItemShape<'a>
-    ensures shape { spec.item_items (seen_splitting words) (items_of (seen_fragments fragments.now)) ≡ shape_read (seen_splitting words) result }
+    ensures shape { spec.item_items words (items_of (seen_fragments fragments.now)) ≡ shape_read words result }
     ensures nested { IsShapeWithin (nesting (seen_fragments fragments.now)) result }
 {
     match fragments.split_first() {
@@ -117,7 +114,7 @@ fn method_in<'a>(
     word: &'a Token,
     inner: &'a [Fragment],
 ) -> Option<MethodGroup<'a>>
-    ensures found { spec.method_in (seen_bracket bracket) word.now (named_items (items_of (seen_fragments inner.now))) ≡ method_read result }
+    ensures found { spec.method_in bracket word.now (named_items (items_of (seen_fragments inner.now))) ≡ method_read result }
     ensures nested { (n : ℕ) → nesting (seen_fragments inner.now) < n → IsMethodShallower n result }
 {
     match bracket {

@@ -12,13 +12,11 @@ ghost use Rattle.dy_read_shapes.specs.ListHeads.{capped_listed, read_each_requir
 ghost use Rattle.dy_read_parts.specs.Nesting.{nesting};
 ghost use Rattle.dy_read_parts.specs.Pieces.{IsWithin};
 ghost use Rattle.dy_read_shapes.specs.ReadRequired.{read_required, RequiredDepth};
-ghost use Rattle.dy_read_words.specs.Seen.{seen_part_word};
 
 use crate::list_part::{ListPart, list_part};
 use crate::required::required_items;
 use dy_read_parts::names::name_in;
-use dy_read_words::part_word::PartWord;
-use dy_tree::{Fragment, Required, Token};
+use dy_tree::{Fragment, PartWord, Required, Token};
 use std::alloc::{AllocError, Global};
 
 /// Parameters that may stand in front of `#key`.
@@ -138,7 +136,7 @@ fn with_part(
     piece: &[Fragment],
     depth: &mut usize,
 ) -> Result<Option<ListHeads>, AllocError>
-    ensures part { IfOk result (λ more. (found : Option Listed) → heads_read more (option_map capped_listed found) ≡ heads_before heads (option_map capped_listed (plain_part (seen_part_word word) (items_of (seen_fragments piece.now)) found))) }
+    ensures part { IfOk result (λ more. (found : Option Listed) → heads_read more (option_map capped_listed found) ≡ heads_before heads (option_map capped_listed (plain_part word (items_of (seen_fragments piece.now)) found))) }
     ensures depth { IfOk result (λ more. (outer : ℕ) → depth.old ≡ max outer (required_depth (read_each_required heads.required.items)) → HeadsDepth outer depth.new more) }
 {
     match word {

@@ -4,12 +4,11 @@ ghost use Rattle.std.specs.Prelude.{◌≡◌, false, length};
 ghost use Rattle.dy_tree.specs.Fragments.{seen_fragments};
 ghost use Rattle.dy_read_shapes.specs.ListParts.{is_key_word, front_word, listed_parts, part_read, IsPartWithin, IsPartShorter};
 ghost use Rattle.dy_read_parts.specs.Nesting.{nesting};
-ghost use Rattle.dy_read_words.specs.Seen.{seen_part_word};
 
 use dy_read_parts::separator::Separator;
 use dy_read_types::division::divide;
-use dy_read_words::part_word::{PartWord, part_kind};
-use dy_tree::Fragment;
+use dy_read_words::part_word::part_kind;
+use dy_tree::{Fragment, PartWord};
 
 /// How a parameter list begins.
 #[derive(Clone, Copy, Debug)]
@@ -27,14 +26,14 @@ pub enum ListPart<'a> {
 }
 
 fn is_key(word: PartWord) -> bool
-    ensures { result ≡ is_key_word (seen_part_word word) }
+    ensures { result ≡ is_key_word word }
 {
     matches!(word, PartWord::Key)
 }
 
 /// The parameter in front of the first comma.
 fn one_part(word: PartWord, fragments: &[Fragment]) -> ListPart<'_>
-    ensures part { seen_part_word word ≡ front_word (seen_fragments fragments.now) → false ≡ is_key_word (seen_part_word word) → listed_parts (seen_fragments fragments.now) ≡ part_read result }
+    ensures part { word ≡ front_word (seen_fragments fragments.now) → false ≡ is_key_word word → listed_parts (seen_fragments fragments.now) ≡ part_read result }
     ensures shorter { IsPartShorter (length fragments.now) result }
     ensures nested { IsPartWithin (nesting (seen_fragments fragments.now)) result }
 {

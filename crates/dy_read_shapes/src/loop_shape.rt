@@ -16,8 +16,8 @@ ghost use Rattle.dy_read_parts.specs.Nesting.{nesting};
 
 use dy_read_parts::mark::{is_equals_at, is_in, word_of};
 use dy_read_parts::pieces::Piece;
-use dy_read_words::splitter::{Splitter, is_limit_word, splitter_of};
-use dy_tree::{Fragment, Token};
+use dy_read_words::splitter::{is_limit_word, splitter_of};
+use dy_tree::{Fragment, Splitter, Token};
 
 /// What stands behind the last word that splits a statement.
 #[derive(Clone, Copy, Debug)]

@@ -1,6 +1,6 @@
 //! The required parameters of methods.
 
-ghost use Rattle.std.specs.Prelude.{◌≡◌, ℕ, IfOk, option_map};
+ghost use Rattle.std.specs.Prelude.{◌≡◌, IfOk, option_map};
 ghost use Rattle.dy_tree.specs.Fragments.{seen_fragment, seen_fragments};
 ghost use Rattle.dy_rules.specs.Fragments.{items_of};
 ghost use Rattle.dy_rules.specs.Signatures as signatures;
@@ -11,6 +11,7 @@ ghost use Rattle.dy_read_types.specs.VariableFronts.{read_variable};
 
 use dy_read_parts::mark::is_identity_at;
 use dy_read_parts::names::name_at;
+use dy_read_types::depth::deepen;
 use dy_read_types::single::single_in;
 use dy_read_types::variables::variable_items;
 use dy_tree::{Fragment, Required, Variable};
@@ -45,16 +46,23 @@ fn identity_in(fragments: &[Fragment]) -> Option<Identity<'_>>
 
 /// A parameter that is compared with a value.
 #[tactic(auto, using(crate::proofs::RequiredParts::single_named_at))]
-fn single_at(parameter: &Fragment, value: &[Fragment]) -> Result<Option<Required>, AllocError>
+fn single_at(
+    parameter: &Fragment,
+    value: &[Fragment],
+    depth: &mut usize,
+) -> Result<Option<Required>, AllocError>
     ensures found { IfOk result (λ found. option_map read_required found ≡ option_map capped_required (signatures.single_at (seen_fragment parameter.now) (reading.single_in (seen_fragments value.now)))) }
-    ensures depth { IfOk result (λ found. (depth : ℕ) → RequiredDepth depth depth found) }
+    ensures depth { IfOk result (λ found. RequiredDepth depth.old depth.new found) }
 {
     match name_at(parameter) {
         Some(name) => match single_in(value)? {
-            Some(single) => Ok(Some(Required::Single {
-                name: name.copy()?,
-                single,
-            })),
+            Some(single) => {
+                deepen(depth, 1);
+                Ok(Some(Required::Single {
+                    name: name.copy()?,
+                    single,
+                }))
+            }
             None => Ok(None),
         },
         None => Ok(None),
@@ -81,7 +89,7 @@ pub fn required_items(
     ensures depth { IfOk result (λ found. RequiredDepth depth.old depth.new found) }
 {
     match identity_in(fragments) {
-        Some(identity) => single_at(identity.parameter, identity.value),
+        Some(identity) => single_at(identity.parameter, identity.value, depth),
         None => Ok(any_value(variable_items(alloc, fragments, depth)?)),
     }
 }

@@ -9,7 +9,7 @@ use Rattle.dy_rules.specs.Cutting.{Caught, Front, Item, Pieces, is_splitter, cut
 use Rattle.dy_rules.specs.Depth.{block_clause_depth, block_clauses_depth, type_depth}
 use Rattle.dy_rules.specs.Fragments.{items_of}
 use Rattle.dy_rules.specs.Productions.{is_afterwards, is_cleanup, suit_block}
-use Rattle.dy_rules.specs.Roles.{Role, named, role_of, endings}
+use Rattle.dy_rules.specs.Roles.{role_of}
 use Rattle.dy_rules.specs.Trees.{Tree, Body, ItemTree, BlockClause, afterwards_clause, cleanup_clause, exception_clause, body_of, block_tree, block_clauses_of}
 use Rattle.dy_rules.specs.Types.{TypeTree}
 use Rattle.dy_rules.specs.TypeReading.{named_token}
@@ -30,6 +30,9 @@ use Rattle.dy_tree.specs.declared.expression.Item.{Item as ItemForm}
 use Rattle.dy_tree.specs.declared.expression.BlockClause.{BlockClause as ClauseForm}
 use Rattle.dy_tree.specs.declared.types.TypeForm.{TypeForm}
 use Rattle.std.specs.Global.{Vec}
+use Rattle.dy_tree.specs.declared.roles.Role.{Role}
+use Rattle.dy_tree.specs.declared.roles.Role.TheVariants as roles
+use Rattle.dy_tree.specs.declared.splitters.Splitting.TheVariants as splittings
 use Rattle.dy_read_statements.specs.FilledInside.{filled_inside}
 use Rattle.dy_read_parts.specs.Names.{name_at}
 use Rattle.dy_read_parts.specs.Pieces.{others_in, pieces_behind, read_before}
@@ -97,21 +100,21 @@ clauses_deeper [] clause = omega arith
 clauses_deeper (first ∷ rest) clause = let more = clauses_deeper rest clause in omega arith
 
 -- the clauses behind separators
-module _ (separator : SeenFragment) (behind : List SeenFragment) (first : List Item) (rest : List SeenFragment) (cuts : cut (is_splitter endings) false (items_of behind) ≡ pieces_behind (is_splitter endings) first rest) where
+module _ (separator : SeenFragment) (behind : List SeenFragment) (first : List Item) (rest : List SeenFragment) (cuts : cut (is_splitter splittings.Endings) false (items_of behind) ≡ pieces_behind (is_splitter splittings.Endings) first rest) where
   clauses_are : (found : Option BlockClause) → found ≡ option_map (changed_clause capping) (block_clause_at (word_of separator) first)
-      → option_map (map (changed_clause capping)) (block_clauses_in (others_in (is_splitter endings) (separator ∷ behind))) ≡ with_others found (option_map (map (changed_clause capping)) (block_clauses_in (others_in (is_splitter endings) rest)))
+      → option_map (map (changed_clause capping)) (block_clauses_in (others_in (is_splitter splittings.Endings) (separator ∷ behind))) ≡ with_others found (option_map (map (changed_clause capping)) (block_clauses_in (others_in (is_splitter splittings.Endings) rest)))
   clauses_are found e =
       ap (λ (pieces : Pieces). option_map (map (changed_clause capping)) (with_others (block_clause_at (word_of separator) pieces.first) (block_clauses_in pieces.others))) cuts
-      ∙ change_with (changed_clause capping) (block_clause_at (word_of separator) first) (block_clauses_in (others_in (is_splitter endings) rest))
-      ∙ ap (λ (it : Option BlockClause). with_others it (option_map (map (changed_clause capping)) (block_clauses_in (others_in (is_splitter endings) rest)))) (sym e)
+      ∙ change_with (changed_clause capping) (block_clause_at (word_of separator) first) (block_clauses_in (others_in (is_splitter splittings.Endings) rest))
+      ∙ ap (λ (it : Option BlockClause). with_others it (option_map (map (changed_clause capping)) (block_clauses_in (others_in (is_splitter splittings.Endings) rest)))) (sym e)
 
   pub clause_more : (before after : List BlockClause) (next : BlockClause) → Some next ≡ option_map (changed_clause capping) (block_clause_at (word_of separator) first) → after ≡ before ++ next ∷ []
-      → read_before before (option_map (map (changed_clause capping)) (block_clauses_in (others_in (is_splitter endings) (separator ∷ behind)))) ≡ read_before after (option_map (map (changed_clause capping)) (block_clauses_in (others_in (is_splitter endings) rest)))
+      → read_before before (option_map (map (changed_clause capping)) (block_clauses_in (others_in (is_splitter splittings.Endings) (separator ∷ behind)))) ≡ read_before after (option_map (map (changed_clause capping)) (block_clauses_in (others_in (is_splitter splittings.Endings) rest)))
   clause_more before after next e more =
-      ap (read_before before) (clauses_are (Some next) e) ∙ read_one_more before next (option_map (map (changed_clause capping)) (block_clauses_in (others_in (is_splitter endings) rest)))
-      ∙ ap (λ (all : List BlockClause). read_before all (option_map (map (changed_clause capping)) (block_clauses_in (others_in (is_splitter endings) rest)))) (sym more)
+      ap (read_before before) (clauses_are (Some next) e) ∙ read_one_more before next (option_map (map (changed_clause capping)) (block_clauses_in (others_in (is_splitter splittings.Endings) rest)))
+      ∙ ap (λ (all : List BlockClause). read_before all (option_map (map (changed_clause capping)) (block_clauses_in (others_in (is_splitter splittings.Endings) rest)))) (sym more)
 
-  pub clause_missing : (before : List BlockClause) → None ≡ option_map (changed_clause capping) (block_clause_at (word_of separator) first) → None ≡ read_before before (option_map (map (changed_clause capping)) (block_clauses_in (others_in (is_splitter endings) (separator ∷ behind))))
+  pub clause_missing : (before : List BlockClause) → None ≡ option_map (changed_clause capping) (block_clause_at (word_of separator) first) → None ≡ read_before before (option_map (map (changed_clause capping)) (block_clauses_in (others_in (is_splitter splittings.Endings) (separator ∷ behind))))
   clause_missing before e = sym (ap (read_before before) (clauses_are None e))
 
 -- What suits depends on no tree.
@@ -165,12 +168,12 @@ module _ (word : Token) (exit : Option Token) (trees : List ItemTree) (clauses :
 
 -- a block of what stands between its words
 pub block_found : (word : Token) (front : Front) (first : List Item) (others : List SeenFragment) (exit : Option (Option Token)) (trees : Option (List ItemTree)) (clauses : Option (List BlockClause))
-    → cut (is_splitter endings) false front.rest ≡ pieces_behind (is_splitter endings) first others → exit ≡ exit_inside front.first.fragment → trees ≡ option_map (map (changed_item capping)) (body_items endings first)
-    → clauses ≡ option_map (map (changed_clause capping)) (block_clauses_in (others_in (is_splitter endings) others)) → option_map capped (block_read word exit trees clauses) ≡ option_map capped (block_items word front)
+    → cut (is_splitter splittings.Endings) false front.rest ≡ pieces_behind (is_splitter splittings.Endings) first others → exit ≡ exit_inside front.first.fragment → trees ≡ option_map (map (changed_item capping)) (body_items splittings.Endings first)
+    → clauses ≡ option_map (map (changed_clause capping)) (block_clauses_in (others_in (is_splitter splittings.Endings) others)) → option_map capped (block_read word exit trees clauses) ≡ option_map capped (block_items word front)
 block_found word front first others exit trees clauses cuts e f g =
     ap (λ (x : Option (Option Token)). option_map capped (block_read word x trees clauses)) e ∙ ap (λ (t : Option (List ItemTree)). option_map capped (block_read word (exit_inside front.first.fragment) t clauses)) f
-    ∙ ap (λ (c : Option (List BlockClause)). option_map capped (block_read word (exit_inside front.first.fragment) (option_map (map (changed_item capping)) (body_items endings first)) c)) g
-    ∙ block_through word (exit_inside front.first.fragment) (body_items endings first) (block_clauses_in (others_in (is_splitter endings) others))
+    ∙ ap (λ (c : Option (List BlockClause)). option_map capped (block_read word (exit_inside front.first.fragment) (option_map (map (changed_item capping)) (body_items splittings.Endings first)) c)) g
+    ∙ block_through word (exit_inside front.first.fragment) (body_items splittings.Endings first) (block_clauses_in (others_in (is_splitter splittings.Endings) others))
     ∙ ap (λ (pieces : Pieces). option_map capped (option_and_then (block_pieces word pieces) (exit_inside front.first.fragment))) (sym cuts)
 
 -- the variable in front of a condition
@@ -178,7 +181,7 @@ abbrev named_caught : Option TypeTree → Token → Option Caught
 named_caught condition token = option_map (caught_of (Some token)) condition
 
 named_role : (role : Role) (token : Token) (condition : Option TypeTree) → caught_named role token condition ≡ option_and_then (named_caught condition) (named_token role token)
-named_role named token condition = refl
+named_role roles.Named token condition = refl
 named_role role token condition = refl
 
 pub caught_name : (fragment : SeenFragment) (condition : Option TypeTree) → caught_with fragment condition ≡ option_and_then (named_caught condition) (name_at fragment)

@@ -6,11 +6,13 @@ use Rattle.std.specs.Global.{Vec}
 use Rattle.dy_tree.specs.declared.expression.Alternative.{Alternative}
 use Rattle.dy_tree.specs.declared.expression.Item.{Item}
 use Rattle.dy_tree.specs.declared.token.Token.{Token}
+use Rattle.dy_tree.specs.declared.splitters.Splitting.TheVariants as splittings
+use Rattle.dy_tree.specs.declared.splitters.Splitter.{Splitter}
+use Rattle.dy_tree.specs.declared.splitters.Splitter.TheVariants as splitters
 use Rattle.dy_rules.specs.Bodies.{body_items}
 use Rattle.dy_rules.specs.Cutting as cutting
 use Rattle.dy_rules.specs.Cutting.{Piece, Pieces, is_splitter, cut, word_of}
 use Rattle.dy_rules.specs.Depth.{alternative_depth, alternatives_depth}
-use Rattle.dy_rules.specs.Roles.{branches, Splitter, else_word, elseif_word}
 use Rattle.dy_rules.specs.SeenForms.{seen_item}
 use Rattle.dy_rules.specs.StatementReading as reading
 use Rattle.dy_rules.specs.StatementReading.{Tested, tested_by, tested, Others, by_body, with_body, with_test, if_last, other_at, if_of, if_body, if_items}
@@ -24,8 +26,8 @@ use Rattle.dy_rules_depth.proofs.Rows.{row_body}
 use Rattle.dy_rules_depth.proofs.StatementsSame.{if_of_same}
 use Rattle.dy_rules_depth.proofs.Twice.{tree_twice, body_twice}
 use Rattle.dy_read_statements.specs.Branches.{branch_of, capped_other, capped_others}
-use Rattle.dy_read_statements.specs.FilledInside.{is_statement, filled_inside}
-use Rattle.dy_read_shapes.specs.Held.{seen_alternative, seen_last}
+use Rattle.dy_read_statements.specs.FilledInside.{filled_inside}
+use Rattle.dy_rules.specs.Held.{held_alternative, held_last}
 use Rattle.dy_read_statements.specs.ReadBranches.{read_alternative, read_last, others_of, alternative_of, alternative_behind, alternative_items, capped_alternative, others_before, others_behind, others_with, LastDepth, capped_if}
 use Rattle.dy_read_statements.specs.ReadBodies.{read_list}
 use Rattle.dy_read_statements.specs.ReadItems.{capped_items}
@@ -33,15 +35,15 @@ use Rattle.dy_read_statements.specs.BodyDepths.{BodyDepth}
 use Rattle.dy_read_statements.specs.ReadStatements.{both, all_three}
 use Rattle.dy_read_statements.specs.declared.branch.Branch.{Branch}
 use Rattle.dy_read_statements.specs.declared.branch.Branch.TheVariants as branch
-use Rattle.dy_read_statements.proofs.Statements.{Filled, trees_twice}
+use Rattle.dy_read_statements.proofs.Statements.{trees_twice}
 
 -- an `if` as it lies in memory
 
-alternatives_filled : (list : List Alternative) → changed_alternatives filling (alternatives_of (map seen_alternative list)) ≡ alternatives_of (map read_alternative list)
+alternatives_filled : (list : List Alternative) → changed_alternatives filling (alternatives_of (map held_alternative list)) ≡ alternatives_of (map read_alternative list)
 alternatives_filled [] = refl
 alternatives_filled (first ∷ rest) = cc (row_body filling (map seen_item first.body.items), alternatives_filled rest)
 
-pub last_filled : (last : Option (Vec Item)) → changed_otherwise filling (seen_last last) ≡ read_last last
+pub last_filled : (last : Option (Vec Item)) → changed_otherwise filling (held_last last) ≡ read_last last
 last_filled None = refl
 last_filled (Some body) = ap otherwise (row_body filling (map seen_item body.items))
 
@@ -49,13 +51,9 @@ last_filled (Some body) = ap otherwise (row_body filling (map seen_item body.ite
 pub if_deep : (t b o n i j : ℕ) → n ≡ 1 + max (max t b) o → i ≡ max t b → j ≡ max i o → n ≡ 1 + j
 if_deep t b o n i j e f g = omega arith
 
-pub if_filled : (tree : Tree) (word copy : Token) (boxed test : Tree) (items : List Item) (list : List Alternative) (last : Option (Vec Item)) → tree ≡ if_tree copy boxed (body_of (map seen_item items)) (alternatives_of (map seen_alternative list)) (seen_last last)
-    → copy ≡ word → boxed ≡ test → Filled tree (if_of word (filled test) (read_list items) (others_of list last))
-if_filled tree word copy boxed test items list last e is same =
-    record {
-      statement = ap is_statement e;
-      inside = ap filled_inside e ∙ cc (row_body filling (map seen_item items), alternatives_filled list, last_filled last, is, same);
-    }
+pub if_filled : (tree : Tree) (word copy : Token) (boxed test : Tree) (items : List Item) (list : List Alternative) (last : Option (Vec Item)) → tree ≡ if_tree copy boxed (body_of (map seen_item items)) (alternatives_of (map held_alternative list)) (held_last last)
+    → copy ≡ word → boxed ≡ test → filled_inside tree ≡ if_of word (filled test) (read_list items) (others_of list last)
+if_filled tree word copy boxed test items list last e is same = ap filled_inside e ∙ cc (row_body filling (map seen_item items), alternatives_filled list, last_filled last, is, same)
 
 -- an alternative
 
@@ -64,9 +62,9 @@ alternative_body test None = refl
 alternative_body test (Some body) = ap (λ it. Some (alternative (capped test) it)) (sym (row_body capping body))
 
 pub alternative_through : (test : Option Tree) (rest : List cutting.Item)
-    → both alternative_of (option_map capped test) (option_map capped_items (body_items branches rest)) ≡ option_map capped_alternative (option_and_then alternative_behind (option_map (tested_by rest) test))
+    → both alternative_of (option_map capped test) (option_map capped_items (body_items splittings.Branches rest)) ≡ option_map capped_alternative (option_and_then alternative_behind (option_map (tested_by rest) test))
 alternative_through None rest = refl
-alternative_through (Some test) rest = alternative_body test (body_items branches rest)
+alternative_through (Some test) rest = alternative_body test (body_items splittings.Branches rest)
 
 -- the alternatives to the limit
 
@@ -84,11 +82,11 @@ more_capped test (Some others) (Some body) = refl
 test_capped : (rest : Option Others) (found : Option Tested)
     → option_map (changed_others capping) (option_and_then (with_test rest) found) ≡ option_and_then (others_behind (option_map (changed_others capping) rest)) (option_map capped_alternative (option_and_then alternative_behind found))
 test_capped rest None = refl
-test_capped rest (Some head) = more_capped head.test rest (body_items branches head.rest)
+test_capped rest (Some head) = more_capped head.test rest (body_items splittings.Branches head.rest)
 
 other_capped : (word : Splitter) (items : List cutting.Item) (behind : List Piece) (rest : Option Others) → option_map (changed_others capping) (other_at word items behind rest) ≡ capped_other (branch_of word) items behind (option_map (changed_others capping) rest)
-other_capped else_word items behind rest = last_capped behind (body_items branches items)
-other_capped elseif_word items behind rest = test_capped rest (tested items)
+other_capped splitters.Else items behind rest = last_capped behind (body_items splittings.Branches items)
+other_capped splitters.Elseif items behind rest = test_capped rest (tested items)
 other_capped word items behind rest = refl
 
 pub others_capped : (pieces : List Piece) → option_map (changed_others capping) (reading.others_of pieces) ≡ capped_others pieces
@@ -143,10 +141,10 @@ last_alone before (piece ∷ behind) found e = absurd (omega (arith, eqb-true (l
 
 module _ (before : List trees.Alternative) (piece : Piece) (behind : List Piece) (is : branch.Else ≡ branch_of (word_of piece.separator)) where
   pub not_last : false ≡ (length behind == 0) → None ≡ option_map (others_before before) (capped_others (piece ∷ behind))
-  not_last e = sym (at_branch before piece behind branch.Else is ∙ last_followed before behind (option_map by_body (option_map capped_items (body_items branches piece.items))) e)
+  not_last e = sym (at_branch before piece behind branch.Else is ∙ last_followed before behind (option_map by_body (option_map capped_items (body_items splittings.Branches piece.items))) e)
 
-  pub at_last : true ≡ (length behind == 0) → option_map (others_with before) (option_map capped_items (body_items branches piece.items)) ≡ option_map (others_before before) (capped_others (piece ∷ behind))
-  at_last e = last_alone before behind (option_map capped_items (body_items branches piece.items)) e ∙ sym (at_branch before piece behind branch.Else is)
+  pub at_last : true ≡ (length behind == 0) → option_map (others_with before) (option_map capped_items (body_items splittings.Branches piece.items)) ≡ option_map (others_before before) (capped_others (piece ∷ behind))
+  at_last e = last_alone before behind (option_map capped_items (body_items splittings.Branches piece.items)) e ∙ sym (at_branch before piece behind branch.Else is)
 
 -- how deep it is with the last body
 pub last_depths : (n m : ℕ) (list : List Alternative) (last : Option (Vec Item)) → n ≡ alternatives_depth (alternatives_of (map read_alternative list)) → BodyDepth n m last → LastDepth m list last
@@ -178,11 +176,11 @@ pub all_are : {A B C D : Type 0} (make : A → B → C → D) {first other : Opt
 all_are make e f g = cc (e, f, g)
 
 abbrev pieces_of : List cutting.Item → Pieces
-pieces_of rest = cut (is_splitter branches) false rest
+pieces_of rest = cut (is_splitter splittings.Branches) false rest
 
 pub if_through : (word : Token) (test : Option Tree) (rest : List cutting.Item)
-    → all_three (capped_if word) (option_map capped test) (option_map capped_items (body_items branches (pieces_of rest).first)) (capped_others (pieces_of rest).others) ≡ option_map capped (option_and_then (if_items word) (option_map (tested_by rest) test))
+    → all_three (capped_if word) (option_map capped test) (option_map capped_items (body_items splittings.Branches (pieces_of rest).first)) (capped_others (pieces_of rest).others) ≡ option_map capped (option_and_then (if_items word) (option_map (tested_by rest) test))
 if_through word None rest = refl
 if_through word (Some test) rest =
-    ap (all_three (capped_if word) (Some (capped test)) (option_map capped_items (body_items branches (pieces_of rest).first))) (sym (others_capped (pieces_of rest).others))
-    ∙ if_trees word test (body_items branches (pieces_of rest).first) (reading.others_of (pieces_of rest).others)
+    ap (all_three (capped_if word) (Some (capped test)) (option_map capped_items (body_items splittings.Branches (pieces_of rest).first))) (sym (others_capped (pieces_of rest).others))
+    ∙ if_trees word test (body_items splittings.Branches (pieces_of rest).first) (reading.others_of (pieces_of rest).others)

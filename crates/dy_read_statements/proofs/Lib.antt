@@ -2,7 +2,6 @@ pub mod ArmParts
 pub mod Arms
 pub mod Blocks
 pub mod Branches
-pub mod Held
 pub mod LoopHeads
 pub mod Loops
 pub mod Maxima

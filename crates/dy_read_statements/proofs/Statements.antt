@@ -1,13 +1,13 @@
 -- Statements that are put together from parts that were read.
-use Rattle.std.proofs.Common.{◌≡◌, true, List, map, Option, Some, None, Result, IfOk, option_map, option_and_then, refl, ap, ◌∙◌}
+use Rattle.std.proofs.Common.{◌≡◌, List, map, Option, Some, None, Result, IfOk, option_map, option_and_then, refl, ap, ◌∙◌}
 use Rattle.std.proofs.lemmas.Result.{IfOk-weaker}
 use Rattle.dy_tree.specs.declared.expression.Item.{Item}
 use Rattle.dy_tree.specs.declared.token.Token.{Token}
+use Rattle.dy_tree.specs.declared.brackets.Guard.{Guard}
+use Rattle.dy_tree.specs.declared.splitters.Splitting.TheVariants as splittings
 use Rattle.dy_rules.specs.Bodies.{body_items}
 use Rattle.dy_rules.specs.Cutting as cutting
 use Rattle.dy_rules.specs.Cutting.{MethodFound}
-use Rattle.dy_rules.specs.Operators.{Guard}
-use Rattle.dy_rules.specs.Roles.{nothing}
 use Rattle.dy_rules.specs.SeenForms.{seen_item}
 use Rattle.dy_rules.specs.StatementReading.{tested_by, begin_of, guarded_of, guarded_items, method_statement}
 use Rattle.dy_rules.specs.Trees.{Tree, begin_tree, guarded, method_tree, Parameters, ItemTree, parameters_of, body_of}
@@ -18,35 +18,23 @@ use Rattle.dy_rules_depth.proofs.Rows.{row_body, body_changed}
 use Rattle.dy_rules_depth.proofs.SameNodes.{same_method}
 use Rattle.dy_rules_depth.proofs.StatementsSame.{begin_of_same, guarded_of_same}
 use Rattle.dy_rules_depth.proofs.Twice.{tree_twice, item_twice, parameters_twice}
-use Rattle.dy_read_statements.specs.FilledInside.{is_statement, filled_inside}
+use Rattle.dy_read_statements.specs.FilledInside.{filled_inside}
 use Rattle.dy_read_statements.specs.ReadBodies.{read_list}
 use Rattle.dy_read_statements.specs.ReadItems.{capped_items}
 use Rattle.dy_read_statements.specs.ReadMethods.{capped_parts, parts_of}
 use Rattle.dy_read_statements.specs.ReadStatements.{both, capped_begin, capped_guarded, method_of, capped_method_tree}
 
 -- a statement as it lies in memory, and as it is read
-pub record Filled (tree node : Tree) : Type 0 where
-  pub statement : is_statement tree ≡ true
-  pub inside : filled_inside tree ≡ node
+pub begin_filled : (tree : Tree) (word copy : Token) (items : List Item) → tree ≡ begin_of copy (map seen_item items) → copy ≡ word → filled_inside tree ≡ begin_of word (read_list items)
+begin_filled tree word copy items e is = ap filled_inside e ∙ ap (begin_tree copy) (row_body filling (map seen_item items)) ∙ ap (λ (token : Token). begin_of token (read_list items)) is
 
-pub begin_filled : (tree : Tree) (word copy : Token) (items : List Item) → tree ≡ begin_of copy (map seen_item items) → copy ≡ word → Filled tree (begin_of word (read_list items))
-begin_filled tree word copy items e is =
-    record { statement = ap is_statement e; inside = ap filled_inside e ∙ ap (begin_tree copy) (row_body filling (map seen_item items)) ∙ ap (λ (token : Token). begin_of token (read_list items)) is }
-
-pub guarded_filled : (tree : Tree) (guard : Guard) (word copy : Token) (boxed test : Tree) (items : List Item) → tree ≡ guarded_of guard copy boxed (map seen_item items) → copy ≡ word → boxed ≡ test → Filled tree (guarded_of guard word (filled test) (read_list items))
-guarded_filled tree guard word copy boxed test items e is same =
-    record {
-      statement = ap is_statement e;
-      inside = ap filled_inside e ∙ ap (guarded guard copy (filled boxed)) (row_body filling (map seen_item items)) ∙ cc (is, same);
-    }
+pub guarded_filled : (tree : Tree) (guard : Guard) (word copy : Token) (boxed test : Tree) (items : List Item) → tree ≡ guarded_of guard copy boxed (map seen_item items) → copy ≡ word → boxed ≡ test
+    → filled_inside tree ≡ guarded_of guard word (filled test) (read_list items)
+guarded_filled tree guard word copy boxed test items e is same = ap filled_inside e ∙ ap (guarded guard copy (filled boxed)) (row_body filling (map seen_item items)) ∙ cc (is, same)
 
 pub method_filled : (tree : Tree) (word copy : Token) (boxed signature : Parameters) (items : List Item) → tree ≡ method_tree copy boxed (body_of (map seen_item items)) → copy ≡ word → boxed ≡ signature
-    → Filled tree (method_of word (record { signature = changed_parameters filling signature; trees = read_list items }))
-method_filled tree word copy boxed signature items e is same =
-    record {
-      statement = ap is_statement e;
-      inside = ap filled_inside e ∙ ap (method_tree copy (changed_parameters filling boxed)) (row_body filling (map seen_item items)) ∙ cc (is, same);
-    }
+    → filled_inside tree ≡ method_of word (record { signature = changed_parameters filling signature; trees = read_list items })
+method_filled tree word copy boxed signature items e is same = ap filled_inside e ∙ ap (method_tree copy (changed_parameters filling boxed)) (row_body filling (map seen_item items)) ∙ cc (is, same)
 
 -- what was read is the same as something else
 pub read_as : {A B E : Type 0} (see : A → B) (result : Result A E) (old new : B) → old ≡ new → IfOk result (λ found. see found ≡ old) → IfOk result (λ found. see found ≡ new)
@@ -68,9 +56,9 @@ guarded_body guard word test None = refl
 guarded_body guard word test (Some trees) = ap Some (guarded_of_same guard word (capped test) test (tree_twice test) (capped_items trees) trees (trees_twice trees))
 
 pub guarded_through : (guard : Guard) (word : Token) (test : Option Tree) (rest : List cutting.Item)
-    → both (capped_guarded guard word) (option_map capped test) (option_map capped_items (body_items nothing rest)) ≡ option_map capped (option_and_then (guarded_items guard word) (option_map (tested_by rest) test))
+    → both (capped_guarded guard word) (option_map capped test) (option_map capped_items (body_items splittings.Nothing rest)) ≡ option_map capped (option_and_then (guarded_items guard word) (option_map (tested_by rest) test))
 guarded_through guard word None rest = refl
-guarded_through guard word (Some test) rest = guarded_body guard word test (body_items nothing rest)
+guarded_through guard word (Some test) rest = guarded_body guard word test (body_items splittings.Nothing rest)
 
 pub method_through : (word : Token) (found : Option MethodFound) → option_map (capped_method_tree word) (option_map capped_parts (option_map parts_of found)) ≡ option_map capped (option_map (method_statement word) found)
 method_through word None = refl

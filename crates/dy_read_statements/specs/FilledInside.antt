@@ -1,19 +1,7 @@
 -- A statement with what was filled in of its parts.
-use Rattle.std.specs.Prelude.{Bool, true, false}
 use Rattle.dy_rules.specs.Trees.{Tree, begin_tree, if_tree, guarded, case_tree, select_tree, block_tree, for_tree, method_tree}
 use Rattle.dy_rules_depth.specs.Changes.{changed_maybe, changed_parameters, changed_body, changed_alternatives, changed_otherwise, changed_arms, changed_clauses, changed_for_clauses, changed_stop}
 use Rattle.dy_rules_depth.specs.Capping.{filled, filling}
-
-abbrev pub is_statement : Tree → Bool
-is_statement (begin_tree word body) = true
-is_statement (if_tree word test body others last) = true
-is_statement (guarded guard word test body) = true
-is_statement (case_tree word arms last) = true
-is_statement (select_tree word selected test arms last) = true
-is_statement (block_tree word exit body clauses) = true
-is_statement (for_tree word clauses stop body last) = true
-is_statement (method_tree word signature body) = true
-is_statement _ = false
 
 abbrev pub filled_inside : Tree → Tree
 filled_inside (begin_tree word body) = begin_tree word (changed_body filling body)

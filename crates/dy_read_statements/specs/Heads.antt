@@ -1,11 +1,11 @@
 -- What stands between the brackets of a `select`, as the reader asks for it.
 use Rattle.std.specs.Prelude.{◌≤◌, ⊤, ℕ, List, [], ◌∷◌, Option, None, option_map, option_and_then}
 use Rattle.dy_tree.specs.Fragments.{seen_fragments}
+use Rattle.dy_tree.specs.declared.splitters.Splitting.TheVariants as splittings
 use Rattle.dy_rules.specs.Choices.{head_alone, head_with}
 use Rattle.dy_rules.specs.Cutting.{Head, Item, Piece, Pieces}
 use Rattle.dy_rules.specs.Fragments.{items_of}
 use Rattle.dy_rules.specs.Reading.{expression_items}
-use Rattle.dy_rules.specs.Roles.{tests}
 use Rattle.dy_read_parts.specs.Nesting.{nesting}
 use Rattle.dy_read_statements.specs.declared.head.HeadShape.{HeadShape}
 use Rattle.dy_read_statements.specs.declared.head.HeadShape.TheVariants as shapes
@@ -29,8 +29,8 @@ abbrev pub head_cut : Pieces → SeenHead
 head_cut pieces = head_behind pieces.first pieces.others
 
 abbrev pub head_read : SeenHead → Option Head
-head_read (alone_head selected) = option_map head_alone (expression_items tests selected)
-head_read (tested_head selected test) = option_and_then (head_with test) (expression_items tests selected)
+head_read (alone_head selected) = option_map head_alone (expression_items splittings.Tests selected)
+head_read (tested_head selected test) = option_and_then (head_with test) (expression_items splittings.Tests selected)
 head_read no_head = None
 
 -- no part of it is nested deeper

@@ -4,11 +4,11 @@ use Rattle.std.specs.Global.{Vec}
 use Rattle.dy_tree.specs.declared.token.Token.{Token}
 use Rattle.dy_tree.specs.declared.expression.Item.{Item}
 use Rattle.dy_tree.specs.declared.expression.Stop.{Stop}
+use Rattle.dy_tree.specs.declared.splitters.Splitting.TheVariants as splittings
 use Rattle.dy_rules.specs.Bodies.{body_items}
 use Rattle.dy_rules.specs.Cutting.{Ending, Pieces}
 use Rattle.dy_rules.specs.Depth.{body_depth, otherwise_depth}
 use Rattle.dy_rules.specs.Loops.{for_body, finally_in}
-use Rattle.dy_rules.specs.Roles.{last_part}
 use Rattle.dy_rules.specs.SeenForms.{seen_tree}
 use Rattle.dy_rules.specs.Trees.{Tree, ForClause, StopTree, ItemTree, Otherwise, no_otherwise, otherwise, MaybeStop, no_stop, a_stop, body_of}
 use Rattle.dy_read_statements.specs.LoopHeads.{read_head, head_depth}
@@ -50,4 +50,4 @@ abbrev pub loop_made : Token → Option (Ending ForClause StopTree) → Option (
 loop_made word head trees last = option_and_then (made_with word trees last) head
 
 abbrev pub loop_at : Token → Option (Ending ForClause StopTree) → Pieces → Option Tree
-loop_at word head pieces = loop_made word head (body_items last_part pieces.first) (finally_in pieces.others)
+loop_at word head pieces = loop_made word head (body_items splittings.LastPart pieces.first) (finally_in pieces.others)

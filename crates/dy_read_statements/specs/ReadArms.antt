@@ -5,13 +5,13 @@ use Rattle.dy_tree.specs.declared.expression.Arm.{Arm}
 use Rattle.dy_tree.specs.declared.expression.Expression.{Expression}
 use Rattle.dy_tree.specs.declared.expression.Item.{Item}
 use Rattle.dy_tree.specs.declared.token.Token.{Token}
+use Rattle.dy_tree.specs.declared.splitters.Splitting.TheVariants as splittings
 use Rattle.dy_rules.specs.Bodies.{item_items}
 use Rattle.dy_rules.specs.Choices.{PieceKind, item_piece, arm_piece, otherwise_piece, no_piece, kind_of, Choices, choices_of, no_choices, with_lead, arm_if, last_of, last_with, tests_items}
 use Rattle.dy_rules.specs.Cutting as cutting
 use Rattle.dy_rules.specs.Cutting.{Head, Piece, Pieces}
 use Rattle.dy_rules.specs.Depth.{item_depth, body_depth, tests_depth, arms_depth, otherwise_depth}
 use Rattle.dy_rules.specs.Productions.{suits}
-use Rattle.dy_rules.specs.Roles.{nothing}
 use Rattle.dy_rules.specs.StatementReading.{case_of, select_of}
 use Rattle.dy_rules.specs.Trees as trees
 use Rattle.dy_rules.specs.Trees.{Tree, ItemTree, no_otherwise, arm, arms_of, body_of, tests_of}
@@ -40,7 +40,7 @@ first_depth (Some tree) = item_depth tree
 
 abbrev pub capped_first : List cutting.Item → Option (Option ItemTree)
 capped_first [] = Some None
-capped_first (item ∷ rest) = option_map Some (option_map capped_item (item_items nothing (item ∷ rest)))
+capped_first (item ∷ rest) = option_map Some (option_map capped_item (item_items splittings.Nothing (item ∷ rest)))
 
 -- how deep it is with what was read before
 abbrev pub FirstDepth : ℕ → ℕ → Option (Option Item) → Type 0
@@ -100,7 +100,7 @@ abbrev pub capped_trees : List Tree → List Tree
 capped_trees trees = map capped trees
 
 abbrev pub capped_choice : Bool → PieceKind → List cutting.Item → Choices → Option Choices
-capped_choice single item_piece items rest = option_map (with_lead rest) (option_map capped_item (item_items nothing items))
+capped_choice single item_piece items rest = option_map (with_lead rest) (option_map capped_item (item_items splittings.Nothing items))
 capped_choice single (arm_piece before after) items rest = arm_read single rest (option_map capped_trees (tests_items before)) (capped_first after)
 capped_choice single (otherwise_piece after) items rest = last_read rest (capped_first after)
 capped_choice single no_piece items rest = None

@@ -4,10 +4,10 @@ use Rattle.std.specs.Global.{Vec}
 use Rattle.dy_tree.specs.declared.expression.Alternative.{Alternative}
 use Rattle.dy_tree.specs.declared.expression.Item.{Item}
 use Rattle.dy_tree.specs.declared.token.Token.{Token}
+use Rattle.dy_tree.specs.declared.splitters.Splitting.TheVariants as splittings
 use Rattle.dy_rules.specs.Bodies.{body_items}
 use Rattle.dy_rules.specs.Cutting as cutting
 use Rattle.dy_rules.specs.Depth.{body_depth, alternative_depth, alternatives_depth, otherwise_depth}
-use Rattle.dy_rules.specs.Roles.{branches}
 use Rattle.dy_rules.specs.StatementReading.{Tested, tested, Others, if_of}
 use Rattle.dy_rules.specs.Trees as trees
 use Rattle.dy_rules.specs.Trees.{Tree, ItemTree, body_of, alternative, alternatives_of, no_otherwise, otherwise}
@@ -45,7 +45,7 @@ abbrev pub alternative_of : Tree → List ItemTree → trees.Alternative
 alternative_of test trees = alternative test (body_of trees)
 
 abbrev pub alternative_behind : Tested → Option trees.Alternative
-alternative_behind head = option_map (alternative_of head.test) (body_items branches head.rest)
+alternative_behind head = option_map (alternative_of head.test) (body_items splittings.Branches head.rest)
 
 abbrev pub alternative_items : List cutting.Item → Option trees.Alternative
 alternative_items items = option_and_then alternative_behind (tested items)

@@ -2,10 +2,10 @@
 use Rattle.std.specs.Prelude.{Option, Some, None, List, option_map}
 use Rattle.dy_tree.specs.declared.token.Token.{Token}
 use Rattle.dy_tree.specs.Fragments.{seen_fragments}
+use Rattle.dy_tree.specs.declared.brackets.Guard.{Guard}
+use Rattle.dy_tree.specs.declared.splitters.Splitting.TheVariants as splittings
 use Rattle.dy_rules.specs.Fragments.{items_of}
-use Rattle.dy_rules.specs.Operators.{Guard}
 use Rattle.dy_rules.specs.Reading.{expression_items}
-use Rattle.dy_rules.specs.Roles.{nothing}
 use Rattle.dy_rules.specs.StatementReading.{Tested, tested_by, begin_of, guarded_of}
 use Rattle.dy_rules.specs.Trees.{Tree, ItemTree, method_tree, body_of}
 use Rattle.dy_rules_depth.specs.Capping.{capped}
@@ -15,7 +15,7 @@ use Rattle.dy_read_parts.specs.declared.front.Front.{Front}
 -- brackets with an expression inside, and what stands behind them
 abbrev pub front_tested : Option Front → Option Tested
 front_tested None = None
-front_tested (Some front) = option_map (tested_by (items_of (seen_fragments front.rest.now))) (expression_items nothing (items_of (seen_fragments front.inner.now)))
+front_tested (Some front) = option_map (tested_by (items_of (seen_fragments front.rest.now))) (expression_items splittings.Nothing (items_of (seen_fragments front.inner.now)))
 
 -- what is made of two parts, where both are there
 abbrev pub both : {A B C : Type 0} → (A → B → C) → Option A → Option B → Option C

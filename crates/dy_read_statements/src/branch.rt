@@ -6,8 +6,7 @@ ghost use Rattle.dy_rules.specs.Cutting as cutting;
 ghost use Rattle.dy_read_statements.specs.Branches.{branch_of};
 
 use dy_read_parts::mark::word_of;
-use dy_read_words::splitter::Splitter;
-use dy_tree::Fragment;
+use dy_tree::{Fragment, Splitter};
 
 /// An alternative of an `if`.
 #[derive(Clone, Copy, Debug, PartialEq, Eq)]

@@ -9,7 +9,7 @@ ghost use Rattle.dy_rules.specs.Trees as trees;
 ghost use Rattle.dy_rules_depth.specs.Changes.{changed_limit, changed_maybe};
 ghost use Rattle.dy_rules_depth.specs.Capping.{filling};
 ghost use Rattle.dy_read_operators.specs.Grown.{read_grown};
-ghost use Rattle.dy_read_shapes.specs.Held.{seen_bounded};
+ghost use Rattle.dy_rules.specs.Held.{held_limit};
 ghost use Rattle.dy_read_shapes.specs.LoopShapes.{next_with};
 ghost use Rattle.dy_read_statements.specs.ReadLoops.{read_bounded, read_step, read_range, read_for, ForDepth};
 ghost use Rattle.dy_read_types.specs.VariableFronts.{read_variable};
@@ -133,7 +133,7 @@ pub fn in_clause(
 }
 
 fn limit_form(limit: Option<Bounded>, depth: &mut usize) -> Option<Limit>
-    ensures read { changed_limit filling (seen_bounded result) ≡ read_bounded limit }
+    ensures read { changed_limit filling (held_limit result) ≡ read_bounded limit }
     ensures depth { depth.new ≡ max depth.old (measure.limit_depth (read_bounded limit)) }
 {
     match limit {
@@ -167,7 +167,7 @@ fn from_form(
     limit: Option<Limit>,
     step: Option<Expression>,
 ) -> ForClause
-    ensures { seen_for_clause result ≡ trees.from_clause (seen_variable variable) (seen_tree start) (seen_bounded limit) (seen_initial step) }
+    ensures { seen_for_clause result ≡ trees.from_clause (seen_variable variable) (seen_tree start) (held_limit limit) (seen_initial step) }
 {
     ForClause::From {
         variable,

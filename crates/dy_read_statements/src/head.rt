@@ -2,10 +2,10 @@
 
 ghost use Rattle.std.specs.Prelude.{◌≡◌, false, option_map};
 ghost use Rattle.dy_tree.specs.Fragments.{seen_fragments};
+ghost use Rattle.dy_tree.specs.declared.splitters.Splitting.TheVariants as splittings;
 ghost use Rattle.dy_rules.specs.Choices as choices;
 ghost use Rattle.dy_rules.specs.Cutting.{cut, is_splitter};
 ghost use Rattle.dy_rules.specs.Fragments.{items_of};
-ghost use Rattle.dy_rules.specs.Roles as roles;
 ghost use Rattle.dy_read_statements.specs.Arms.{read_head};
 ghost use Rattle.dy_read_operators.specs.Grown.{read_grown};
 ghost use Rattle.dy_read_statements.specs.Heads.{head_cut, seen_head, IsHeadWithin};
@@ -15,8 +15,7 @@ ghost use Rattle.dy_read_statements.specs.ReadStatements.{both};
 use dy_read_operators::grown::Grown;
 use dy_read_parts::cutting::split_piece;
 use dy_read_parts::separator::Separator;
-use dy_read_words::splitter::Splitting;
-use dy_tree::Fragment;
+use dy_tree::{Fragment, Splitting};
 
 /// The value of a `select`, and what it is compared by.
 #[derive(Drop)]
@@ -41,7 +40,7 @@ pub enum HeadShape<'a> {
 
 /// What stands between the brackets of a `select`.
 pub fn head_shape(fragments: &[Fragment]) -> HeadShape<'_>
-    ensures head { seen_head result ≡ head_cut (cut (is_splitter roles.tests) false (items_of (seen_fragments fragments.now))) }
+    ensures head { seen_head result ≡ head_cut (cut (is_splitter splittings.Tests) false (items_of (seen_fragments fragments.now))) }
     ensures nested { IsHeadWithin (nesting (seen_fragments fragments.now)) result }
 {
     let (selected, others) = split_piece(Separator::Splitter(Splitting::Tests), false, fragments);

@@ -2,11 +2,11 @@
 
 ghost use Rattle.std.specs.Prelude.{◌≡◌, ◌+◌, IfOk, map, option_map};
 ghost use Rattle.dy_rules.specs.Loops as loops;
-ghost use Rattle.dy_rules.specs.SeenForms.{seen_tree};
+ghost use Rattle.dy_rules.specs.SeenForms.{seen_statement};
 ghost use Rattle.dy_rules.specs.Trees as trees;
 ghost use Rattle.dy_rules_depth.specs.Capping.{capped};
 ghost use Rattle.dy_read_operators.specs.Grown.{read_grown};
-ghost use Rattle.dy_read_shapes.specs.Held as held;
+ghost use Rattle.dy_rules.specs.Held.{held_body, held_clauses, held_last, held_stop};
 ghost use Rattle.dy_read_statements.specs.LoopHeads.{read_head};
 ghost use Rattle.dy_read_statements.specs.Loops as spec;
 ghost use Rattle.dy_read_statements.specs.ReadBodies.{read_items};
@@ -14,7 +14,7 @@ ghost use Rattle.dy_read_statements.specs.ReadBodies.{read_items};
 use crate::loop_head::ForHead;
 use crate::statement_nodes::statement_within;
 use dy_read_operators::grown::Grown;
-use dy_tree::{Expression, ForClause, Item, Stop, Token};
+use dy_tree::{ForClause, Item, Statement, Stop, Token};
 use std::alloc::{AllocError, Global};
 
 /// The part behind `finally`, or nothing.
@@ -41,7 +41,7 @@ pub fn finally_of(body: Option<Vec<Item>>) -> Option<Finally>
 }
 
 fn boxed_stop(alloc: Global, stop: Option<Stop>) -> Result<Option<Box<Stop>>, AllocError>
-    ensures { IfOk result (λ boxed. held.seen_ended boxed ≡ spec.seen_stop stop) }
+    ensures { IfOk result (λ boxed. held_stop boxed ≡ spec.seen_stop stop) }
 {
     match stop {
         Some(stop) => Ok(Some(Box::new(alloc, stop)?)),
@@ -55,10 +55,10 @@ fn for_tree(
     stop: Option<Box<Stop>>,
     body: Vec<Item>,
     finally: Option<Vec<Item>>,
-) -> Expression
-    ensures { seen_tree result ≡ trees.for_tree word (held.seen_loop clauses) (held.seen_ended stop) (held.seen_items body) (held.seen_last finally) }
+) -> Statement
+    ensures { seen_statement result ≡ trees.for_tree word (held_clauses clauses) (held_stop stop) (held_body body) (held_last finally) }
 {
-    Expression::For {
+    Statement::For {
         word,
         clauses,
         stop,

@@ -1,21 +1,19 @@
 //! Statements put together from parts that were read.
 
-ghost use Rattle.std.specs.Prelude.{◌≡◌, ◌+◌, true, map, IfOk};
+ghost use Rattle.std.specs.Prelude.{◌≡◌, ◌+◌, map, IfOk};
 ghost use Rattle.dy_rules.specs.Depth as measure;
-ghost use Rattle.dy_rules.specs.SeenForms.{seen_item, seen_parameters, seen_tree};
+ghost use Rattle.dy_rules.specs.SeenForms.{seen_item, seen_parameters, seen_statement, seen_tree};
 ghost use Rattle.dy_rules.specs.StatementReading as spec;
 ghost use Rattle.dy_rules.specs.Trees as trees;
 ghost use Rattle.dy_rules_depth.specs.Capping.{capped};
-ghost use Rattle.dy_read_statements.specs.FilledInside.{is_statement, filled_inside};
+ghost use Rattle.dy_read_statements.specs.FilledInside.{filled_inside};
 ghost use Rattle.dy_read_operators.specs.Grown.{read_grown};
-ghost use Rattle.dy_read_shapes.specs.Held as held;
-ghost use Rattle.dy_read_words.specs.Seen.{seen_guard};
+ghost use Rattle.dy_rules.specs.Held.{held_alternative, held_arms, held_last, held_test};
 
 use dy_read_operators::grown::Grown;
 use dy_read_operators::nodes::{grown, too_deep};
 use dy_read_types::depth::DEPTH_LIMIT;
-use dy_read_words::bracket::Guard;
-use dy_tree::{Alternative, Arm, Expression, Item, Parameters, Token};
+use dy_tree::{Alternative, Arm, Expression, Guard, Item, Parameters, Statement, Token};
 use std::alloc::{AllocError, Global};
 
 /// A statement of parts of which the deepest is `inside` deep, or what stands for one that is too
@@ -23,43 +21,43 @@ use std::alloc::{AllocError, Global};
 pub fn statement_within(
     alloc: Global,
     word: &Token,
-    tree: Expression,
+    statement: Statement,
     inside: usize,
 ) -> Result<Grown, AllocError>
-    requires statement { is_statement (seen_tree tree) ≡ true }
-    requires depth { measure.depth (filled_inside (seen_tree tree)) ≡ 1 + inside }
-    ensures { IfOk result (λ grown. read_grown grown ≡ capped (filled_inside (seen_tree tree))) }
+    requires { measure.depth (filled_inside (seen_statement statement)) ≡ 1 + inside }
+    ensures { IfOk result (λ grown. read_grown grown ≡ capped (filled_inside (seen_statement statement))) }
 {
     if inside < DEPTH_LIMIT {
-        grown(alloc, tree, inside + 1)
+        grown(alloc, Expression::Statement(statement), inside + 1)
     } else {
         too_deep(alloc, word)
     }
 }
 
 /// `begin`
-pub fn begin_tree(word: Token, body: Vec<Item>) -> Expression
-    ensures { seen_tree result ≡ spec.begin_of word (map seen_item body.items) }
+pub fn begin_tree(word: Token, body: Vec<Item>) -> Statement
+    ensures { seen_statement result ≡ spec.begin_of word (map seen_item body.items) }
 {
-    Expression::Begin { word, body }
+    Statement::Begin { word, body }
 }
 
 /// `unless`, `while` or `until`
-pub fn guarded_tree(guard: Guard, word: Token, test: Box<Expression>, body: Vec<Item>) -> Expression
-    ensures { seen_tree result ≡ spec.guarded_of (seen_guard guard) word (seen_tree test.value) (map seen_item body.items) }
+pub fn guarded_tree(guard: Guard, word: Token, test: Box<Expression>, body: Vec<Item>) -> Statement
+    ensures { seen_statement result ≡ spec.guarded_of guard word (seen_tree test.value) (map seen_item body.items) }
 {
-    match guard {
-        Guard::Unless => Expression::Unless { word, test, body },
-        Guard::While => Expression::While { word, test, body },
-        Guard::Until => Expression::Until { word, test, body },
+    Statement::Guarded {
+        guard,
+        word,
+        test,
+        body,
     }
 }
 
 /// `method`
-pub fn method_tree(word: Token, parameters: Box<Parameters>, body: Vec<Item>) -> Expression
-    ensures { seen_tree result ≡ trees.method_tree word (seen_parameters parameters.value) (trees.body_of (map seen_item body.items)) }
+pub fn method_tree(word: Token, parameters: Box<Parameters>, body: Vec<Item>) -> Statement
+    ensures { seen_statement result ≡ trees.method_tree word (seen_parameters parameters.value) (trees.body_of (map seen_item body.items)) }
 {
-    Expression::Method {
+    Statement::Method {
         word,
         parameters,
         body,
@@ -73,10 +71,10 @@ pub fn if_tree(
     body: Vec<Item>,
     alternatives: Vec<Alternative>,
     otherwise: Option<Vec<Item>>,
-) -> Expression
-    ensures { seen_tree result ≡ trees.if_tree word (seen_tree test.value) (trees.body_of (map seen_item body.items)) (trees.alternatives_of (map held.seen_alternative alternatives.items)) (held.seen_last otherwise) }
+) -> Statement
+    ensures { seen_statement result ≡ trees.if_tree word (seen_tree test.value) (trees.body_of (map seen_item body.items)) (trees.alternatives_of (map held_alternative alternatives.items)) (held_last otherwise) }
 {
-    Expression::If {
+    Statement::If {
         word,
         test,
         body,
@@ -86,10 +84,10 @@ pub fn if_tree(
 }
 
 /// `case`
-pub fn case_tree(word: Token, arms: Vec<Arm>, otherwise: Option<Vec<Item>>) -> Expression
-    ensures { seen_tree result ≡ trees.case_tree word (held.seen_arms arms) (held.seen_last otherwise) }
+pub fn case_tree(word: Token, arms: Vec<Arm>, otherwise: Option<Vec<Item>>) -> Statement
+    ensures { seen_statement result ≡ trees.case_tree word (held_arms arms) (held_last otherwise) }
 {
-    Expression::Case {
+    Statement::Case {
         word,
         arms,
         otherwise,
@@ -103,10 +101,10 @@ pub fn select_tree(
     test: Option<Box<Expression>>,
     arms: Vec<Arm>,
     otherwise: Option<Vec<Item>>,
-) -> Expression
-    ensures { seen_tree result ≡ trees.select_tree word (seen_tree value.value) (held.seen_boxed test) (held.seen_arms arms) (held.seen_last otherwise) }
+) -> Statement
+    ensures { seen_statement result ≡ trees.select_tree word (seen_tree value.value) (held_test test) (held_arms arms) (held_last otherwise) }
 {
-    Expression::Select {
+    Statement::Select {
         word,
         value,
         test,

@@ -2,7 +2,9 @@
 use Rattle.std.proofs.Common.{◌≡◌, ℕ, max, List, [], ◌∷◌, ◌++◌, Option, Some, None, option_map, option_and_then, refl, sym, ap, ◌∙◌, arith}
 use Rattle.std.proofs.lemmas.List.{map-append}
 use Rattle.dy_tree.specs.Fragments.{SeenFragment, one, group, pack}
-use Rattle.dy_rules.specs.Roles.{Role, comma, dot, role_of}
+use Rattle.dy_tree.specs.declared.roles.Role.{Role}
+use Rattle.dy_tree.specs.declared.roles.Role.TheVariants as roles
+use Rattle.dy_rules.specs.Roles.{role_of}
 use Rattle.dy_rules.specs.ConstantTrees.{Constant}
 use Rattle.dy_rules.specs.ConstantReading.{comes, after_sign, known, Listing, started, element, ending, Inside, inside, list_found, vector_found, behind_constant, listed, list_in, vector_in}
 use Rattle.dy_rules.specs.Depth.{constant_depth}
@@ -22,8 +24,8 @@ list_first [] = refl
 list_first (first ∷ rest) = refl
 
 behind_by : (role : Role) (items : List Constant) (rest : List SeenFragment) → option_and_then list_found (option_and_then (λ next. listed next (pack rest)) (behind_constant role items)) ≡ list_from items (next_by role rest)
-behind_by comma items rest = refl
-behind_by dot items rest = refl
+behind_by roles.Comma items rest = refl
+behind_by roles.Dot items rest = refl
 behind_by role items rest = refl
 
 -- what stands behind an item

@@ -4,8 +4,12 @@ use Rattle.dy_tree.specs.declared.token.Token.{Token}
 use Rattle.dy_tree.specs.declared.types.LiteralForm.{LiteralForm}
 use Rattle.dy_tree.specs.declared.types.LiteralForm.TheVariants as literals
 use Rattle.dy_tree.specs.Fragments.{SeenFragment, one, group, SeenFragments, row, pack}
-use Rattle.dy_rules.specs.Roles as roles
-use Rattle.dy_rules.specs.Roles.{Role, role_of, negative, Bracket, bracket_of}
+use Rattle.dy_tree.specs.declared.roles.Role.{Role}
+use Rattle.dy_tree.specs.declared.roles.Role.TheVariants as roles
+use Rattle.dy_tree.specs.declared.brackets.Bracket.{Bracket}
+use Rattle.dy_tree.specs.declared.brackets.Bracket.TheVariants as brackets
+use Rattle.dy_rules.specs.Roles as rules
+use Rattle.dy_rules.specs.Roles.{role_of, negative, bracket_of}
 use Rattle.dy_rules.specs.Constants.{token_literal}
 use Rattle.dy_rules.specs.ConstantTrees.{Constant, literal_item}
 use Rattle.dy_rules.specs.ConstantReading.{Element, comes, after_sign, known, Listing, started, element, ending, Inside, list_found, ConstantItem, token_of, known_literal, known_list, known_vector, at_element, at_digits, group_element, element_step, listing_step, constant_item, listed, list_in, vector_in}
@@ -23,11 +27,11 @@ pub literal_present : (token : Token) (form : LiteralForm) → token_literal (ro
 literal_present token form = go (role_of token) refl
   where
     go : (role : Role) → role_of token ≡ role → token_literal role token ≡ Some form → filled_literal form ≡ literal_item form
-    go roles.integer is e = present_by (roles.positive token) form refl e
-    go roles.character is e = present_by (literals.Char token) form refl e
-    go roles.string is e = present_by (literals.Str token) form refl e
-    go roles.boolean is e = present_by (literals.Bool token) form refl e
-    go roles.symbol is e = present_by (literals.Symbol token) form (rw (symbol_present token is) refl) e
+    go roles.Integer is e = present_by (rules.positive token) form refl e
+    go roles.Character is e = present_by (literals.Char token) form refl e
+    go roles.Text is e = present_by (literals.Str token) form refl e
+    go roles.Boolean is e = present_by (literals.Bool token) form refl e
+    go roles.Symbol is e = present_by (literals.Symbol token) form (rw (symbol_present token is) refl) e
     go role is e = absurd cc
 
 then_ends : (found : Option Listing) (rest : List SeenFragment) → option_and_then list_found (option_and_then (λ next. listed next (pack rest)) found) ≡ option_and_then (λ next. ends next rest) found
@@ -48,7 +52,7 @@ module _ (make : Element → Listing) (at_comes : (item : ConstantItem) → list
   go_on rest found = option_and_then (λ next. ends next rest) (option_map make found)
 
   digits_read : (role : Role) (sign digits : Token) (rest : List SeenFragment) → go_on rest (at_digits role sign digits) ≡ option_and_then behind (shape_read (shape_of_digits role sign digits rest))
-  digits_read roles.integer sign digits rest = refl
+  digits_read roles.Integer sign digits rest = refl
   digits_read role sign digits rest = refl
 
   sign_read : (sign : Token) (rest : List SeenFragment) → ends (make (after_sign sign)) rest ≡ option_and_then behind (shape_read (shape_behind_sign sign rest))
@@ -63,7 +67,7 @@ module _ (make : Element → Listing) (at_comes : (item : ConstantItem) → list
   literal_read (Some form) rest = refl
 
   token_read : (role : Role) (token : Token) (rest : List SeenFragment) → go_on rest (at_element role token) ≡ option_and_then behind (shape_read (shape_of_token role token rest))
-  token_read roles.minus token rest = sign_read token rest
+  token_read roles.Minus token rest = sign_read token rest
   token_read role token rest = literal_read (token_literal role token) rest
 
   list_read : (opener : Token) (found : Option Inside) (rest : List SeenFragment) → go_on rest (option_map (known_list opener) found) ≡ option_and_then behind (option_map (in_front rest) (option_map (list_of opener) found))
@@ -75,8 +79,8 @@ module _ (make : Element → Listing) (at_comes : (item : ConstantItem) → list
   vector_read opener (Some found) rest = refl
 
   group_is : (bracket : Bracket) (opener : Token) (inner : SeenFragments) (rest : List SeenFragment) → go_on rest (group_element bracket opener (listed started inner)) ≡ option_and_then behind (option_map (in_front rest) (group_read bracket opener (row inner)))
-  group_is roles.sharp_round opener inner rest = rw (pack_row inner) (list_read opener (list_in inner) rest)
-  group_is roles.sharp_square opener inner rest = rw (pack_row inner) (vector_read opener (vector_in inner) rest)
+  group_is brackets.SharpRound opener inner rest = rw (pack_row inner) (list_read opener (list_in inner) rest)
+  group_is brackets.SharpSquare opener inner rest = rw (pack_row inner) (vector_read opener (vector_in inner) rest)
   group_is bracket opener inner rest = refl
 
   -- A constant is read, and then what stands behind it.

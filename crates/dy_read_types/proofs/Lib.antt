@@ -6,7 +6,6 @@ pub mod Endings
 pub mod LimitParts
 pub mod NextNesting
 pub mod ResultParts
-pub mod Rows
 pub mod Singles
 pub mod TargetParts
 pub mod TypeCaps

@@ -4,11 +4,11 @@ use Rattle.dy_tree.specs.declared.token.Token.{Token}
 use Rattle.dy_tree.specs.declared.fragment.Fragment.{Fragment}
 use Rattle.dy_tree.specs.Fragments.{SeenFragment, one, group, seen_fragments}
 use Rattle.dy_rules.specs.Arguments.{is_comma_fragment}
-use Rattle.dy_rules.specs.Cutting.{cut, each_other}
+use Rattle.dy_rules.specs.Cutting.{cut}
 use Rattle.dy_rules.specs.Fragments.{items_of}
 use Rattle.dy_rules.specs.Roles.{role_of}
 use Rattle.dy_rules.specs.Types.{Bound}
-use Rattle.dy_rules.specs.TypeReading.{bound_items, is_integer_class, limits_if, limits_in, limits_items, limits_pieces}
+use Rattle.dy_rules.specs.TypeReading.{is_integer_class, bounds_in, limits_if, limits_in, limits_items, limits_pieces}
 use Rattle.dy_rules.proofs.Lists.{fragments_back}
 use Rattle.dy_read_types.specs.Limits.{class_if, class_in, with_bounds}
 use Rattle.dy_read_parts.specs.Pieces.{others_in, pieces_behind}
@@ -26,7 +26,7 @@ by_class (group opener inner closer ∷ second ∷ rest) bounds = refl
 
 -- the limits that fragments with this class in front stand for
 pub limits_cut : (all piece others : List Fragment) → cut is_comma_fragment false (items_of (seen_fragments all)) ≡ pieces_behind is_comma_fragment (items_of (seen_fragments piece)) (seen_fragments others)
-    → limits_items (items_of (seen_fragments all)) ≡ option_and_then (with_bounds (each_other bound_items (others_in is_comma_fragment (seen_fragments others)))) (class_in (seen_fragments piece))
+    → limits_items (items_of (seen_fragments all)) ≡ option_and_then (with_bounds (bounds_in (others_in is_comma_fragment (seen_fragments others)))) (class_in (seen_fragments piece))
 limits_cut all piece others e =
-    let bounds = each_other bound_items (others_in is_comma_fragment (seen_fragments others)) in
+    let bounds = bounds_in (others_in is_comma_fragment (seen_fragments others)) in
     ap limits_pieces e ∙ ap (λ (fs : List SeenFragment). limits_in fs bounds) (fragments_back (seen_fragments piece)) ∙ by_class (seen_fragments piece) bounds

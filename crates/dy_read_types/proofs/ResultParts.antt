@@ -3,10 +3,11 @@ use Rattle.std.proofs.Common.{◌≡◌, ◌==◌, false, List, [], ◌∷◌, l
 use Rattle.dy_tree.specs.declared.token.Token.{Token}
 use Rattle.dy_tree.specs.declared.fragment.Fragment.{Fragment}
 use Rattle.dy_tree.specs.Fragments.{SeenFragment, one, group, SeenFragments, pack, seen_fragments}
+use Rattle.dy_tree.specs.declared.brackets.Bracket.{Bracket}
+use Rattle.dy_tree.specs.declared.brackets.Bracket.TheVariants as brackets
 use Rattle.dy_rules.specs.Cutting.{Ending, Item, front_in, headed}
 use Rattle.dy_rules.specs.Fragments.{found_of, item_of, items_of}
-use Rattle.dy_rules.specs.Roles as roles
-use Rattle.dy_rules.specs.Roles.{Bracket, bracket_of}
+use Rattle.dy_rules.specs.Roles.{bracket_of}
 use Rattle.dy_rules.specs.Types.{VariableTree, ResultTree}
 use Rattle.dy_rules.specs.TypeReading.{VariableFront, variable_front}
 use Rattle.dy_rules.specs.Signatures.{give_items, several_given, results_in_front, given_in, variable_result, results_behind}
@@ -31,16 +32,16 @@ pub one_changed : (found : Option VariableFront) → option_map variable_result 
 one_changed None = refl
 one_changed (Some front) = refl
 
-inside : (opener : Token) (inner : List SeenFragment) (closer : Token) (rest : List Item) → given_in roles.round (pack inner) (found_of opener (pack inner) closer (items_of inner)) rest ≡ option_map (results_in_front rest) (several_in inner)
+inside : (opener : Token) (inner : List SeenFragment) (closer : Token) (rest : List Item) → given_in brackets.Round (pack inner) (found_of opener (pack inner) closer (items_of inner)) rest ≡ option_map (results_in_front rest) (several_in inner)
 inside opener [] closer rest = refl
 inside opener (first ∷ others) closer rest = refl
 
-pub results_bracketed : (opener : Token) (inner : List SeenFragment) (closer : Token) (items rest : List Item) → items ≡ as_item opener inner closer ∷ rest → bracket_of opener closer ≡ roles.round → results_behind items ≡ option_map (results_in_front rest) (several_in inner)
+pub results_bracketed : (opener : Token) (inner : List SeenFragment) (closer : Token) (items rest : List Item) → items ≡ as_item opener inner closer ∷ rest → bracket_of opener closer ≡ brackets.Round → results_behind items ≡ option_map (results_in_front rest) (several_in inner)
 results_bracketed opener inner closer items rest e is =
     ap results_behind e ∙ ap (λ (b : Bracket). given_in b (pack inner) (found_of opener (pack inner) closer (items_of inner)) rest) is ∙ inside opener inner closer rest
 
 other_brackets : (bracket : Bracket) (inner : SeenFragments) (item : Item) (rest : List Item) → None ≡ front_in bracket item rest → given_in bracket inner item.found rest ≡ None
-other_brackets roles.round inner item rest e = absurd cc
+other_brackets brackets.Round inner item rest e = absurd cc
 other_brackets bracket inner item rest e = refl
 
 -- no round brackets stand in front

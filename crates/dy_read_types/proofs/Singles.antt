@@ -3,17 +3,18 @@ use Rattle.std.proofs.Common.{◌≡◌, ◌==◌, ◌<◌, false, List, [], ◌
 use Rattle.dy_tree.specs.declared.token.Token.{Token}
 use Rattle.dy_tree.specs.declared.fragment.Fragment.{Fragment}
 use Rattle.dy_tree.specs.Fragments.{SeenFragment, one, group, pack, fragment_and, SeenFragments, seen_fragment, seen_fragments}
-use Rattle.dy_rules.specs.Roles.{Bracket, round, square, hidden, sharp_round, sharp_square, statement, special}
+use Rattle.dy_tree.specs.declared.brackets.Bracket.{Bracket}
+use Rattle.dy_tree.specs.declared.brackets.Bracket.TheVariants as brackets
 use Rattle.dy_rules.specs.TypeReading.{single_group, single_in}
 
 filled : (bracket : Bracket) (first : SeenFragment) (rest : SeenFragments) (opener : Token) → single_group bracket (fragment_and first rest) opener ≡ None
-filled round first rest opener = refl
-filled square first rest opener = refl
-filled hidden first rest opener = refl
-filled sharp_round first rest opener = refl
-filled sharp_square first rest opener = refl
-filled (statement kind) first rest opener = refl
-filled special first rest opener = refl
+filled brackets.Round first rest opener = refl
+filled brackets.Square first rest opener = refl
+filled brackets.Hidden first rest opener = refl
+filled brackets.SharpRound first rest opener = refl
+filled brackets.SharpSquare first rest opener = refl
+filled (brackets.Statement kind) first rest opener = refl
+filled brackets.Special first rest opener = refl
 
 -- brackets with something in them
 pub group_filled : (bracket : Bracket) (inner : List Fragment) (opener : Token) → false ≡ (length inner == 0) → None ≡ single_group bracket (pack (seen_fragments inner)) opener

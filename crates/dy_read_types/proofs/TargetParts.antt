@@ -4,10 +4,11 @@ use Rattle.std.proofs.lemmas.Bool.{eqb-true}
 use Rattle.dy_tree.specs.declared.token.Token.{Token}
 use Rattle.dy_tree.specs.declared.fragment.Fragment.{Fragment}
 use Rattle.dy_tree.specs.Fragments.{SeenFragment, one, group, SeenFragments, pack, seen_fragment, seen_fragments}
+use Rattle.dy_tree.specs.declared.brackets.Bracket.{Bracket}
+use Rattle.dy_tree.specs.declared.brackets.Bracket.TheVariants as brackets
 use Rattle.dy_rules.specs.Cutting.{Ending, Item, front_in, headed}
 use Rattle.dy_rules.specs.Fragments.{item_of, items_of}
-use Rattle.dy_rules.specs.Roles as roles
-use Rattle.dy_rules.specs.Roles.{Bracket, bracket_of}
+use Rattle.dy_rules.specs.Roles.{bracket_of}
 use Rattle.dy_rules.specs.Types.{VariableTree, TargetTree, one_target}
 use Rattle.dy_rules.specs.TypeReading.{variable_items, bind_items, several_of, target_in, target_one, target_if, target_items}
 use Rattle.dy_read_types.specs.Targets.{capped_bound, capped_target}
@@ -27,7 +28,7 @@ several_changed (Some bound) = go bound.parts bound.last
     go parts (Some last) = refl
 
 -- where something stands between the brackets
-pub several_inside : (inner : List Fragment) (found : Option (Ending VariableTree Token)) → false ≡ (length inner == 0) → option_map several_of (option_map capped_bound found) ≡ option_map capped_target (target_in roles.round (pack (seen_fragments inner)) found)
+pub several_inside : (inner : List Fragment) (found : Option (Ending VariableTree Token)) → false ≡ (length inner == 0) → option_map several_of (option_map capped_bound found) ≡ option_map capped_target (target_in brackets.Round (pack (seen_fragments inner)) found)
 several_inside [] found some = absurd cc
 several_inside (first ∷ rest) found some = several_changed found
 
@@ -40,8 +41,8 @@ longer None first second rest = refl
 longer (Some target) first second rest = refl
 
 module _ (opener : Token) (inner : List SeenFragment) (closer : Token) (items : List Item) where
-  pub target_alone : (rest : List Fragment) → items ≡ as_item opener inner closer ∷ items_of (seen_fragments rest) → bracket_of opener closer ≡ roles.round → true ≡ (length rest == 0)
-      → target_items items ≡ target_in roles.round (pack inner) (bind_items (items_of inner))
+  pub target_alone : (rest : List Fragment) → items ≡ as_item opener inner closer ∷ items_of (seen_fragments rest) → bracket_of opener closer ≡ brackets.Round → true ≡ (length rest == 0)
+      → target_items items ≡ target_in brackets.Round (pack inner) (bind_items (items_of inner))
   target_alone [] e is none = rw e (whole_group (target_in (bracket_of opener closer) (pack inner) (bind_items (items_of inner))) opener inner closer ∙ ap (λ (b : Bracket). target_in b (pack inner) (bind_items (items_of inner))) is)
   target_alone (second ∷ rest) e is none = absurd (omega (arith, eqb-true (length (second ∷ rest)) 0 (sym none)))
 
@@ -51,7 +52,7 @@ module _ (opener : Token) (inner : List SeenFragment) (closer : Token) (items : 
       rw e (longer (target_in (bracket_of opener closer) (pack inner) (bind_items (items_of inner))) (as_item opener inner closer) (item_of (seen_fragment second)) (items_of (seen_fragments rest)))
 
 other_brackets : (bracket : Bracket) (item : Item) (rest : List Item) (inner : SeenFragments) (found : Option (Ending VariableTree Token)) → None ≡ front_in bracket item rest → target_in bracket inner found ≡ None
-other_brackets roles.round item rest inner found e = absurd cc
+other_brackets brackets.Round item rest inner found e = absurd cc
 other_brackets bracket item rest inner found e = refl
 
 -- no round brackets stand in front

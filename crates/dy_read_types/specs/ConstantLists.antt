@@ -1,7 +1,9 @@
 -- What comes next in a list, and the list that is read from there on.
 use Rattle.std.specs.Prelude.{◌≤◌, ⊤, ℕ, suc, length, List, [], ◌∷◌, Option, Some, None, option_and_then}
 use Rattle.dy_tree.specs.Fragments.{SeenFragment, pack, seen_fragments}
-use Rattle.dy_rules.specs.Roles.{Role, dot, comma, role_of}
+use Rattle.dy_tree.specs.declared.roles.Role.{Role}
+use Rattle.dy_tree.specs.declared.roles.Role.TheVariants as roles
+use Rattle.dy_rules.specs.Roles.{role_of}
 use Rattle.dy_rules.specs.ConstantTrees.{Constant}
 use Rattle.dy_rules.specs.ConstantReading.{comes, Listing, element, ending, Inside, inside, list_found, listed}
 use Rattle.dy_read_types.specs.declared.list_next.ListNext.{ListNext}
@@ -26,8 +28,8 @@ first_item [] = at_end
 first_item (first ∷ rest) = item_next (first ∷ rest)
 
 abbrev pub next_by : Role → List SeenFragment → SeenNext
-next_by comma rest = item_next rest
-next_by dot rest = tail_next rest
+next_by roles.Comma rest = item_next rest
+next_by roles.Dot rest = tail_next rest
 next_by _ rest = no_next
 
 abbrev pub next_at : SeenPart → List SeenFragment → SeenNext

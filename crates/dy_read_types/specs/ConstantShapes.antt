@@ -3,7 +3,11 @@ use Rattle.std.specs.Prelude.{◌≡◌, ◌<◌, ◌≤◌, ⊤, ℕ, length, L
 use Rattle.dy_tree.specs.declared.token.Token.{Token}
 use Rattle.dy_tree.specs.declared.types.LiteralForm.{LiteralForm}
 use Rattle.dy_tree.specs.Fragments.{SeenFragment, pack, seen_fragments}
-use Rattle.dy_rules.specs.Roles.{Role, integer, minus, role_of, negative, Bracket, sharp_round, sharp_square}
+use Rattle.dy_tree.specs.declared.roles.Role.{Role}
+use Rattle.dy_tree.specs.declared.roles.Role.TheVariants as roles
+use Rattle.dy_tree.specs.declared.brackets.Bracket.{Bracket}
+use Rattle.dy_tree.specs.declared.brackets.Bracket.TheVariants as brackets
+use Rattle.dy_rules.specs.Roles.{role_of, negative}
 use Rattle.dy_rules.specs.Constants.{token_literal}
 use Rattle.dy_rules.specs.ConstantTrees.{Constant, literal_item, list_item, vector_item, constants_of, tail_of}
 use Rattle.dy_rules.specs.ConstantReading.{Inside, list_in, vector_in}
@@ -12,7 +16,6 @@ use Rattle.dy_read_types.specs.declared.constant_shape.ConstantShape.{ConstantSh
 use Rattle.dy_read_types.specs.declared.constant_shape.ConstantShape.TheVariants as shapes
 use Rattle.dy_read_parts.specs.FragmentParts.{SeenPart, token_part, group_part, part_of}
 use Rattle.dy_read_parts.specs.Nesting.{nesting}
-use Rattle.dy_read_words.specs.Seen.{seen_bracket}
 
 pub data SeenShape : Type 0 where
   no_shape : SeenShape
@@ -22,14 +25,14 @@ pub data SeenShape : Type 0 where
 abbrev pub seen_shape : ConstantShape → SeenShape
 seen_shape shapes.Nothing = no_shape
 seen_shape (shapes.Literal form rest) = literal_shape form (seen_fragments rest.now)
-seen_shape (shapes.Group bracket opener inner rest) = group_shape (seen_bracket bracket) opener.now (seen_fragments inner.now) (seen_fragments rest.now)
+seen_shape (shapes.Group bracket opener inner rest) = group_shape bracket opener.now (seen_fragments inner.now) (seen_fragments rest.now)
 
 abbrev pub literal_or_none : Option LiteralForm → List SeenFragment → SeenShape
 literal_or_none None rest = no_shape
 literal_or_none (Some form) rest = literal_shape form rest
 
 abbrev pub shape_of_digits : Role → Token → Token → List SeenFragment → SeenShape
-shape_of_digits integer sign digits rest = literal_shape (negative sign digits) rest
+shape_of_digits roles.Integer sign digits rest = literal_shape (negative sign digits) rest
 shape_of_digits _ sign digits rest = no_shape
 
 abbrev pub shape_from_sign : Token → SeenPart → List SeenFragment → SeenShape
@@ -41,7 +44,7 @@ shape_behind_sign sign [] = no_shape
 shape_behind_sign sign (second ∷ others) = shape_from_sign sign (part_of second) others
 
 abbrev pub shape_of_token : Role → Token → List SeenFragment → SeenShape
-shape_of_token minus token rest = shape_behind_sign token rest
+shape_of_token roles.Minus token rest = shape_behind_sign token rest
 shape_of_token role token rest = literal_or_none (token_literal role token) rest
 
 abbrev pub shape_at : SeenPart → List SeenFragment → SeenShape
@@ -78,8 +81,8 @@ vector_of opener items = vector_item opener (constants_of items)
 
 -- the constant that a group is
 abbrev pub group_read : Bracket → Token → List SeenFragment → Option Constant
-group_read sharp_round opener inner = option_map (list_of opener) (list_in (pack inner))
-group_read sharp_square opener inner = option_map (vector_of opener) (vector_in (pack inner))
+group_read brackets.SharpRound opener inner = option_map (list_of opener) (list_in (pack inner))
+group_read brackets.SharpSquare opener inner = option_map (vector_of opener) (vector_in (pack inner))
 group_read _ opener inner = None
 
 -- a constant at the front of fragments, and what stands behind it

@@ -4,11 +4,11 @@ use Rattle.std.specs.Borrow.{Bor}
 use Rattle.dy_tree.specs.declared.fragment.Fragment.{Fragment}
 use Rattle.dy_tree.specs.Fragments.{pack, seen_fragments}
 use Rattle.dy_rules.specs.Fragments.{items_of}
-use Rattle.dy_rules.specs.Roles.{round}
 use Rattle.dy_rules.specs.TypeReading.{variable_items, bind_items, target_in}
 use Rattle.dy_tree.specs.declared.token.Token.{Token}
 use Rattle.dy_tree.specs.declared.variables.Target.{Target}
 use Rattle.dy_tree.specs.declared.variables.Variables.{Variables}
+use Rattle.dy_tree.specs.declared.brackets.Bracket.TheVariants as brackets
 use Rattle.dy_rules.specs.SeenTypes.{seen_target}
 use Rattle.dy_rules.specs.Types.{VariableTree, TargetTree, one_target}
 use Rattle.dy_rules.specs.Cutting.{Ending, Item}
@@ -43,4 +43,4 @@ TargetDepth old new (Some target) = new ≡ max old (target_depth (read_target t
 -- the target that round brackets are, with what stands between them, or a variable
 abbrev pub target_read : List Item → Option (Bor (List Fragment)) → Option TargetTree
 target_read items None = option_map one_target (variable_items items)
-target_read items (Some inner) = target_in round (pack (seen_fragments inner.now)) (bind_items (items_of (seen_fragments inner.now)))
+target_read items (Some inner) = target_in brackets.Round (pack (seen_fragments inner.now)) (bind_items (items_of (seen_fragments inner.now)))

@@ -2,8 +2,14 @@
 use Rattle.std.specs.Prelude.{◌≡◌, ◌<◌, ◌≤◌, ⊤, ℕ, false, List, [], ◌∷◌, Option, None, option_map}
 use Rattle.dy_tree.specs.declared.token.Token.{Token}
 use Rattle.dy_tree.specs.Fragments.{SeenFragment, seen_fragments}
-use Rattle.dy_rules.specs.Roles.{Role, named, role_of, Bracket, round}
-use Rattle.dy_rules.specs.Types.{TypeTree, singleton_type, TypeWord, singleton_word, union_word, limited_word, no_type_word, type_word}
+use Rattle.dy_tree.specs.declared.roles.Role.{Role}
+use Rattle.dy_tree.specs.declared.roles.Role.TheVariants as roles
+use Rattle.dy_tree.specs.declared.brackets.Bracket.{Bracket}
+use Rattle.dy_tree.specs.declared.brackets.Bracket.TheVariants as brackets
+use Rattle.dy_tree.specs.declared.type_words.TypeWord.{TypeWord}
+use Rattle.dy_tree.specs.declared.type_words.TypeWord.TheVariants as type_words
+use Rattle.dy_rules.specs.Roles.{role_of}
+use Rattle.dy_rules.specs.Types.{TypeTree, singleton_type, type_word}
 use Rattle.dy_rules.specs.TypeReading.{TypeFront, in_front, name_front, single_in, union_of, limited_of, limits_items, types_items}
 use Rattle.dy_rules.specs.Fragments.{items_of}
 use Rattle.dy_read_types.specs.declared.type_shape.TypeShape.{TypeShape}
@@ -11,7 +17,6 @@ use Rattle.dy_read_types.specs.declared.type_shape.TypeShape.TheVariants as shap
 use Rattle.dy_read_parts.specs.FragmentParts.{SeenPart, token_part, group_part, part_of}
 use Rattle.dy_read_parts.specs.Nesting.{nesting}
 use Rattle.dy_rules_depth.specs.Capping.{is_absent}
-use Rattle.dy_read_words.specs.Seen.{seen_type_word}
 
 pub data SeenShape : Type 0 where
   no_shape : SeenShape
@@ -21,16 +26,16 @@ pub data SeenShape : Type 0 where
 abbrev pub seen_shape : TypeShape → SeenShape
 seen_shape shapes.Nothing = no_shape
 seen_shape (shapes.Name word rest) = name_shape word.now (seen_fragments rest.now)
-seen_shape (shapes.Form form word inner rest) = form_shape (seen_type_word form) word.now (seen_fragments inner.now) (seen_fragments rest.now)
+seen_shape (shapes.Form form word inner rest) = form_shape form word.now (seen_fragments inner.now) (seen_fragments rest.now)
 
 abbrev pub shape_by : TypeWord → Token → List SeenFragment → List SeenFragment → List SeenFragment → SeenShape
-shape_by no_type_word word inner behind others = name_shape word behind
-shape_by singleton_word word inner behind others = form_shape singleton_word word inner others
-shape_by union_word word inner behind others = form_shape union_word word inner others
-shape_by limited_word word inner behind others = form_shape limited_word word inner others
+shape_by type_words.Absent word inner behind others = name_shape word behind
+shape_by type_words.Singleton word inner behind others = form_shape type_words.Singleton word inner others
+shape_by type_words.Union word inner behind others = form_shape type_words.Union word inner others
+shape_by type_words.Limited word inner behind others = form_shape type_words.Limited word inner others
 
 abbrev pub shape_in : Bracket → Token → List SeenFragment → List SeenFragment → List SeenFragment → SeenShape
-shape_in round word inner behind others = shape_by (type_word word) word inner behind others
+shape_in brackets.Round word inner behind others = shape_by (type_word word) word inner behind others
 shape_in _ word inner behind others = name_shape word behind
 
 abbrev pub shape_behind : Token → SeenPart → List SeenFragment → List SeenFragment → SeenShape
@@ -42,7 +47,7 @@ shape_from word [] = name_shape word []
 shape_from word (second ∷ others) = shape_behind word (part_of second) (second ∷ others) others
 
 abbrev pub shape_named : Role → Token → List SeenFragment → SeenShape
-shape_named named word rest = shape_from word rest
+shape_named roles.Named word rest = shape_from word rest
 shape_named _ word rest = no_shape
 
 abbrev pub shape_at : SeenPart → List SeenFragment → SeenShape
@@ -55,10 +60,10 @@ shape_of (first ∷ rest) = shape_at (part_of first) rest
 
 -- the type that a form with brackets stands for
 abbrev pub form_read : TypeWord → Token → List SeenFragment → Option TypeTree
-form_read singleton_word word inner = option_map (singleton_type word) (single_in inner)
-form_read union_word word inner = option_map (union_of word) (types_items (items_of inner))
-form_read limited_word word inner = option_map (limited_of word) (limits_items (items_of inner))
-form_read no_type_word word inner = None
+form_read type_words.Singleton word inner = option_map (singleton_type word) (single_in inner)
+form_read type_words.Union word inner = option_map (union_of word) (types_items (items_of inner))
+form_read type_words.Limited word inner = option_map (limited_of word) (limits_items (items_of inner))
+form_read type_words.Absent word inner = None
 
 abbrev pub shape_read : SeenShape → Option TypeFront
 shape_read no_shape = None

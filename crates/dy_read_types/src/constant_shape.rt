@@ -3,15 +3,14 @@
 ghost use Rattle.std.specs.Prelude.{◌≡◌, IfOk, length, suc};
 ghost use Rattle.dy_read_parts.specs.Nesting.{nesting};
 ghost use Rattle.dy_tree.specs.Fragments.{seen_fragments};
-ghost use Rattle.dy_rules.specs.Roles as roles;
+ghost use Rattle.dy_rules.specs.Roles as rules;
 ghost use Rattle.dy_rules.specs.Constants as constants;
 ghost use Rattle.dy_read_types.specs.ConstantShapes as spec;
 
 use crate::literal::{negative, token_literal};
 use dy_read_parts::part::{Part, part_of};
-use dy_read_words::bracket::Bracket;
-use dy_read_words::role::{Role, role_of};
-use dy_tree::{Fragment, LiteralForm, Token};
+use dy_read_words::role::role_of;
+use dy_tree::{Bracket, Fragment, LiteralForm, Role, Token};
 use std::alloc::AllocError;
 
 /// How a constant begins, and what stands behind it.
@@ -63,7 +62,7 @@ fn shape_of_literal<'a>(
     token: &Token,
     rest: &'a [Fragment],
 ) -> Result<ConstantShape<'a>, AllocError>
-    ensures shape { IfOk result (λ shape. spec.seen_shape shape ≡ spec.literal_or_none (constants.token_literal (roles.role_of token.now) token.now) (seen_fragments rest.now)) }
+    ensures shape { IfOk result (λ shape. spec.seen_shape shape ≡ spec.literal_or_none (constants.token_literal (rules.role_of token.now) token.now) (seen_fragments rest.now)) }
     ensures present { IfOk result (λ shape. spec.IsPresent shape) }
     ensures shallower { IfOk result (λ shape. spec.IsShallower (nesting (seen_fragments rest.now)) shape) }
     ensures shorter { IfOk result (λ shape. spec.IsShorter (suc (length rest.now)) shape) }
@@ -75,7 +74,7 @@ fn shape_of_literal<'a>(
 }
 
 fn shape_of_token<'a>(token: &Token, rest: &'a [Fragment]) -> Result<ConstantShape<'a>, AllocError>
-    ensures shape { IfOk result (λ shape. spec.seen_shape shape ≡ spec.shape_of_token (roles.role_of token.now) token.now (seen_fragments rest.now)) }
+    ensures shape { IfOk result (λ shape. spec.seen_shape shape ≡ spec.shape_of_token (rules.role_of token.now) token.now (seen_fragments rest.now)) }
     ensures present { IfOk result (λ shape. spec.IsPresent shape) }
     ensures shallower { IfOk result (λ shape. spec.IsShallower (nesting (seen_fragments rest.now)) shape) }
     ensures shorter { IfOk result (λ shape. spec.IsShorter (suc (length rest.now)) shape) }

@@ -9,15 +9,13 @@ ghost use Rattle.dy_read_types.specs.ConstantFronts.{read_front, read_inside, re
 ghost use Rattle.dy_read_types.specs.ConstantShapes.{group_read};
 ghost use Rattle.dy_read_types.specs.ConstantShapes as spec;
 ghost use Rattle.dy_read_parts.specs.Nesting.{nesting};
-ghost use Rattle.dy_read_words.specs.Seen.{seen_bracket};
 
 use crate::constant_front::{ConstantFront, in_front, literal, whole};
 use crate::constant_nodes::{list_item, vector_item};
 use crate::constant_shape::{ConstantShape, constant_shape};
 use crate::list_inside::{ListInside, proper, with_tail};
 use crate::list_next::{ListNext, behind_item, first_item};
-use dy_read_words::bracket::Bracket;
-use dy_tree::{ConstantForm, Fragment, Token};
+use dy_tree::{Bracket, ConstantForm, Fragment, Token};
 use std::alloc::{AllocError, Global};
 
 /// The list or the vector that a group is.
@@ -29,7 +27,7 @@ fn group_constant(
     inner: &[Fragment],
     depth: &mut usize,
 ) -> Result<Option<ConstantForm>, AllocError>
-    ensures found { IfOk result (λ found. option_map read_constant found ≡ option_map capped_constant (group_read (seen_bracket bracket) opener.now (seen_fragments inner.now))) }
+    ensures found { IfOk result (λ found. option_map read_constant found ≡ option_map capped_constant (group_read bracket opener.now (seen_fragments inner.now))) }
     ensures depth { IfOk result (λ found. ConstantDepth depth.old depth.new found) }
 {
     match bracket {

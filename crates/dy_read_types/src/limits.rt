@@ -5,7 +5,7 @@ ghost use Rattle.dy_tree.specs.Fragments.{seen_fragments};
 ghost use Rattle.dy_rules.specs.Arguments.{is_comma_fragment};
 ghost use Rattle.dy_rules.specs.Cutting.{each_other};
 ghost use Rattle.dy_rules.specs.Fragments.{items_of};
-ghost use Rattle.dy_rules.specs.Roles as roles;
+ghost use Rattle.dy_rules.specs.Roles as rules;
 ghost use Rattle.dy_rules.specs.TypeReading as spec;
 ghost use Rattle.dy_read_types.specs.Limits.{class_in, seen_bounds, seen_limits};
 ghost use Rattle.dy_read_parts.specs.Pieces.{others_in};
@@ -14,9 +14,9 @@ use crate::single::bound_in;
 use dy_read_parts::cutting::split_piece;
 use dy_read_parts::separator::Separator;
 use dy_read_words::alone::token_alone;
-use dy_read_words::role::{Role, role_of};
-use dy_read_words::spelling::is_same;
-use dy_tree::{BoundForm, Fragment, Token};
+use dy_read_words::bounds::stand_once;
+use dy_read_words::role::role_of;
+use dy_tree::{BoundForm, Fragment, Role, Token};
 use std::alloc::{AllocError, Global};
 
 /// The class and the bounds of a limited type.
@@ -27,7 +27,7 @@ pub struct Limits {
 }
 
 /// The bounds of a limited type, each behind a comma.
-pub fn bounds_behind(
+fn bounds_behind(
     alloc: Global,
     fragments: &[Fragment],
 ) -> Result<Option<Vec<BoundForm>>, AllocError>
@@ -46,11 +46,27 @@ pub fn bounds_behind(
     Ok(Some(bounds))
 }
 
+/// The bounds of a limited type, where each stands once at most.
+fn bounds_in(alloc: Global, fragments: &[Fragment]) -> Result<Option<Vec<BoundForm>>, AllocError>
+    ensures { IfOk result (λ found. option_map seen_bounds found ≡ spec.bounds_in (others_in is_comma_fragment (seen_fragments fragments.now))) }
+{
+    match bounds_behind(alloc, fragments)? {
+        Some(bounds) => {
+            if stand_once(&bounds) {
+                Ok(Some(bounds))
+            } else {
+                Ok(None)
+            }
+        }
+        None => Ok(None),
+    }
+}
+
 /// Whether a token is the one class that has limits, `<integer>`.
 fn is_integer_class(token: &Token) -> bool
-    ensures { result ≡ spec.is_integer_class (roles.role_of token.now) token.now }
+    ensures { result ≡ spec.is_integer_class (rules.role_of token.now) token.now }
 {
-    matches!(role_of(token), Role::Named) && is_same(b"<integer>", token.text.bytes())
+    matches!(role_of(token), Role::Named) && token.is_spelled(b"<integer>")
 }
 
 /// The class of a limited type.
@@ -70,7 +86,7 @@ pub fn limits_in(alloc: Global, fragments: &[Fragment]) -> Result<Option<Limits>
 {
     let (piece, others) = split_piece(Separator::Comma, false, fragments);
     match class_in(piece)? {
-        Some(class) => match bounds_behind(alloc, others)? {
+        Some(class) => match bounds_in(alloc, others)? {
             Some(bounds) => Ok(Some(Limits { class, bounds })),
             None => Ok(None),
         },

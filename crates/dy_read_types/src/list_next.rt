@@ -6,8 +6,8 @@ ghost use Rattle.dy_read_parts.specs.Nesting.{nesting};
 ghost use Rattle.dy_read_types.specs.ConstantLists as spec;
 
 use dy_read_parts::part::{Part, part_of};
-use dy_read_words::role::{Role, role_of};
-use dy_tree::Fragment;
+use dy_read_words::role::role_of;
+use dy_tree::{Fragment, Role};
 
 /// What comes next in a list.
 #[derive(Clone, Copy, Debug)]

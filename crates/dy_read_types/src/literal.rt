@@ -1,16 +1,16 @@
 //! Literals.
 
 ghost use Rattle.std.specs.Prelude.{◌≡◌, IfOk};
-ghost use Rattle.dy_rules.specs.Roles as roles;
+ghost use Rattle.dy_rules.specs.Roles as rules;
 ghost use Rattle.dy_rules.specs.Constants as spec;
 
-use dy_read_words::role::{Role, role_of};
-use dy_tree::{IntegerForm, LiteralForm, Token};
+use dy_read_words::role::role_of;
+use dy_tree::{IntegerForm, LiteralForm, Role, Token};
 use std::alloc::AllocError;
 
 /// An integer without a minus.
 pub fn positive(digits: &Token) -> Result<LiteralForm, AllocError>
-    ensures { IfOk result (λ form. form ≡ roles.positive digits.now) }
+    ensures { IfOk result (λ form. form ≡ rules.positive digits.now) }
 {
     Ok(LiteralForm::Int(IntegerForm {
         minus: None,
@@ -20,7 +20,7 @@ pub fn positive(digits: &Token) -> Result<LiteralForm, AllocError>
 
 /// An integer with a minus.
 pub fn negative(sign: &Token, digits: &Token) -> Result<LiteralForm, AllocError>
-    ensures { IfOk result (λ form. form ≡ roles.negative sign.now digits.now) }
+    ensures { IfOk result (λ form. form ≡ rules.negative sign.now digits.now) }
 {
     Ok(LiteralForm::Int(IntegerForm {
         minus: Some(sign.copy()?),
@@ -30,7 +30,7 @@ pub fn negative(sign: &Token, digits: &Token) -> Result<LiteralForm, AllocError>
 
 /// The literal that one token is.
 pub fn token_literal(token: &Token) -> Result<Option<LiteralForm>, AllocError>
-    ensures { IfOk result (λ found. found ≡ spec.token_literal (roles.role_of token.now) token.now) }
+    ensures { IfOk result (λ found. found ≡ spec.token_literal (rules.role_of token.now) token.now) }
 {
     match role_of(token) {
         Role::Integer => Ok(Some(positive(token)?)),

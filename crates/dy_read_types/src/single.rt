@@ -2,20 +2,20 @@
 
 ghost use Rattle.std.specs.Prelude.{◌≡◌, [], ◌∷◌, IfOk, option_map};
 ghost use Rattle.dy_tree.specs.Fragments.{pack, seen_fragment, seen_fragments};
-ghost use Rattle.dy_rules.specs.Roles as roles;
+ghost use Rattle.dy_rules.specs.Roles as rules;
 ghost use Rattle.dy_rules.specs.TypeReading as spec;
 ghost use Rattle.dy_rules.specs.SeenTypes.{seen_bound, seen_single};
 ghost use Rattle.dy_read_types.specs.Tests.{is_negative};
 
 use crate::literal::{negative, token_literal};
-use dy_read_words::bracket::{Bracket, bracket_of};
-use dy_read_words::role::{Role, role_of};
+use dy_read_words::bracket::bracket_of;
+use dy_read_words::role::role_of;
 use dy_read_words::sign::is_bound;
-use dy_tree::{BoundForm, Fragment, IntegerForm, SingleForm, Token};
+use dy_tree::{BoundForm, Bracket, Fragment, IntegerForm, Role, SingleForm, Token};
 use std::alloc::AllocError;
 
 fn single_token(token: &Token) -> Result<Option<SingleForm>, AllocError>
-    ensures { IfOk result (λ found. option_map seen_single found ≡ spec.single_token (roles.role_of token.now) token.now) }
+    ensures { IfOk result (λ found. option_map seen_single found ≡ spec.single_token (rules.role_of token.now) token.now) }
 {
     match role_of(token) {
         Role::Named => Ok(Some(SingleForm::Name(token.copy()?))),
@@ -28,13 +28,13 @@ fn single_token(token: &Token) -> Result<Option<SingleForm>, AllocError>
 
 /// Whether these two tokens are a negative integer.
 fn is_negative(sign: &Token, digits: &Token) -> bool
-    ensures { result ≡ is_negative (roles.role_of sign.now) (roles.role_of digits.now) }
+    ensures { result ≡ is_negative (rules.role_of sign.now) (rules.role_of digits.now) }
 {
     matches!(role_of(sign), Role::Minus) && matches!(role_of(digits), Role::Integer)
 }
 
 fn negative_single(sign: &Token, digits: &Token) -> Result<Option<SingleForm>, AllocError>
-    ensures { IfOk result (λ found. option_map seen_single found ≡ spec.negative_single (roles.role_of sign.now) (roles.role_of digits.now) sign.now digits.now) }
+    ensures { IfOk result (λ found. option_map seen_single found ≡ spec.negative_single (rules.role_of sign.now) (rules.role_of digits.now) sign.now digits.now) }
 {
     if is_negative(sign, digits) {
         Ok(Some(SingleForm::Literal(negative(sign, digits)?)))
@@ -49,7 +49,7 @@ fn single_group(
     inner: &[Fragment],
     closer: &Token,
 ) -> Result<Option<SingleForm>, AllocError>
-    ensures { IfOk result (λ found. option_map seen_single found ≡ spec.single_group (roles.bracket_of opener.now closer.now) (pack (seen_fragments inner.now)) opener.now) }
+    ensures { IfOk result (λ found. option_map seen_single found ≡ spec.single_group (rules.bracket_of opener.now closer.now) (pack (seen_fragments inner.now)) opener.now) }
 {
     match bracket_of(opener, closer) {
         Bracket::SharpRound => {
@@ -117,7 +117,7 @@ pub fn single_in(fragments: &[Fragment]) -> Result<Option<SingleForm>, AllocErro
 }
 
 fn plain_integer(digits: &Token) -> Result<Option<IntegerForm>, AllocError>
-    ensures { IfOk result (λ found. found ≡ spec.plain_integer (roles.role_of digits.now) digits.now) }
+    ensures { IfOk result (λ found. found ≡ spec.plain_integer (rules.role_of digits.now) digits.now) }
 {
     match role_of(digits) {
         Role::Integer => Ok(Some(IntegerForm {
@@ -129,7 +129,7 @@ fn plain_integer(digits: &Token) -> Result<Option<IntegerForm>, AllocError>
 }
 
 fn negative_integer(sign: &Token, digits: &Token) -> Result<Option<IntegerForm>, AllocError>
-    ensures { IfOk result (λ found. found ≡ spec.negative_integer_of (roles.role_of sign.now) (roles.role_of digits.now) sign.now digits.now) }
+    ensures { IfOk result (λ found. found ≡ spec.negative_integer_of (rules.role_of sign.now) (rules.role_of digits.now) sign.now digits.now) }
 {
     if is_negative(sign, digits) {
         Ok(Some(IntegerForm {

@@ -2,10 +2,10 @@
 
 ghost use Rattle.std.specs.Prelude.{◌≡◌, ℕ, max, IfOk, option_map, codes};
 ghost use Rattle.dy_tree.specs.Fragments.{pack, seen_fragments};
+ghost use Rattle.dy_tree.specs.declared.brackets.Bracket.TheVariants as brackets;
 ghost use Rattle.dy_rules.specs.Cutting as cutting;
 ghost use Rattle.dy_rules.specs.Depth.{variables_depth};
 ghost use Rattle.dy_rules.specs.Fragments.{items_of};
-ghost use Rattle.dy_rules.specs.Roles.{round};
 ghost use Rattle.dy_rules.specs.TypeReading as reading;
 ghost use Rattle.dy_rules.specs.Types.{one_target};
 ghost use Rattle.dy_read_types.specs.Endings.{parts_before, last_part};
@@ -102,7 +102,7 @@ fn bracketed(
     inner: &[Fragment],
     depth: &mut usize,
 ) -> Result<Option<Target>, AllocError>
-    ensures found { IfOk result (λ found. option_map read_target found ≡ option_map capped_target (reading.target_in round (pack (seen_fragments inner.now)) (reading.bind_items (items_of (seen_fragments inner.now))))) }
+    ensures found { IfOk result (λ found. option_map read_target found ≡ option_map capped_target (reading.target_in brackets.Round (pack (seen_fragments inner.now)) (reading.bind_items (items_of (seen_fragments inner.now))))) }
     ensures depth { IfOk result (λ found. TargetDepth depth.old depth.new found) }
 {
     if inner.is_empty() {

@@ -4,16 +4,13 @@ ghost use Rattle.std.specs.Prelude.{◌≡◌, false};
 ghost use Rattle.dy_read_parts.specs.Nesting.{nesting};
 ghost use Rattle.dy_rules_depth.specs.Capping.{is_absent};
 ghost use Rattle.dy_tree.specs.Fragments.{seen_fragment, seen_fragments};
-ghost use Rattle.dy_rules.specs.Roles as roles;
 ghost use Rattle.dy_rules.specs.Types as types;
-ghost use Rattle.dy_read_words.specs.Seen.{seen_bracket};
 ghost use Rattle.dy_read_types.specs.TypeShapes as spec;
 
 use dy_read_parts::part::{Part, part_of};
-use dy_read_words::bracket::Bracket;
-use dy_read_words::role::{Role, role_of};
-use dy_read_words::type_word::{TypeWord, type_word};
-use dy_tree::{Fragment, Token};
+use dy_read_words::role::role_of;
+use dy_read_words::type_word::type_word;
+use dy_tree::{Bracket, Fragment, Role, Token, TypeWord};
 
 /// How a type begins, and what stands behind it.
 #[derive(Clone, Copy, Debug)]
@@ -65,7 +62,7 @@ fn shape_in<'a>(
     others: &'a [Fragment],
 ) -> TypeShape<'a>
     requires { is_absent word.now ≡ false }
-    ensures shape { spec.seen_shape result ≡ spec.shape_in (seen_bracket bracket) word.now (seen_fragments inner.now) (seen_fragments behind.now) (seen_fragments others.now) }
+    ensures shape { spec.seen_shape result ≡ spec.shape_in bracket word.now (seen_fragments inner.now) (seen_fragments behind.now) (seen_fragments others.now) }
     ensures present { spec.IsPresent (spec.seen_shape result) }
     ensures nested { spec.IsNested (nesting (seen_fragments inner.now)) (spec.seen_shape result) }
 {

@@ -7,7 +7,6 @@ ghost use Rattle.dy_rules.specs.Types as typing;
 ghost use Rattle.dy_rules.specs.TypeReading as reading;
 ghost use Rattle.dy_rules.specs.Fragments.{items_of};
 ghost use Rattle.dy_rules.specs.Depth.{types_depth, type_depth};
-ghost use Rattle.dy_read_words.specs.Seen.{seen_type_word};
 ghost use Rattle.dy_rules_depth.specs.Capping.{is_absent, capped_type, deep_type};
 ghost use Rattle.dy_read_types.specs.TypeCaps.{read_type, read_types};
 ghost use Rattle.dy_read_types.specs.TypeFronts.{seen_front, capped_front, capped_union, capped_types, seen_types, FrontDepth, TypeDepth, TypesDepth};
@@ -19,8 +18,7 @@ use crate::single::single_in;
 use crate::type_shape::{TypeShape, type_shape};
 use dy_read_parts::cutting::{behind_first, piece_len};
 use dy_read_parts::separator::Separator;
-use dy_read_words::type_word::TypeWord;
-use dy_tree::{Fragment, Token, TokenKind, TypeForm};
+use dy_tree::{Fragment, Token, TokenKind, TypeForm, TypeWord};
 use std::alloc::{AllocError, Global};
 
 /// A type at the front of fragments, and what stands behind it.
@@ -183,7 +181,7 @@ fn form_type(
     inner: &[Fragment],
     depth: &mut usize,
 ) -> Result<Option<TypeForm>, AllocError>
-    ensures found { IfOk result (λ found. option_map read_type found ≡ option_map capped_type (spec.form_read (seen_type_word form) word.now (seen_fragments inner.now))) }
+    ensures found { IfOk result (λ found. option_map read_type found ≡ option_map capped_type (spec.form_read form word.now (seen_fragments inner.now))) }
     ensures depth { IfOk result (λ found. TypeDepth depth.old depth.new found) }
 {
     match form {

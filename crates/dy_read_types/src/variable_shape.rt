@@ -3,13 +3,13 @@
 ghost use Rattle.std.specs.Prelude.{◌≡◌, ◌∷◌};
 ghost use Rattle.dy_tree.specs.Fragments.{seen_fragment, seen_fragments};
 ghost use Rattle.dy_rules.specs.Fragments.{items_of};
-ghost use Rattle.dy_rules.specs.Roles as roles;
+ghost use Rattle.dy_rules.specs.Roles as rules;
 ghost use Rattle.dy_rules.specs.TypeReading as reading;
 ghost use Rattle.dy_read_types.specs.VariableShapes.{variable_read};
 
 use dy_read_parts::mark::is_colons;
-use dy_read_words::role::{Role, role_of};
-use dy_tree::{Fragment, Token};
+use dy_read_words::role::role_of;
+use dy_tree::{Fragment, Role, Token};
 
 /// How a variable begins, and what stands behind it.
 #[derive(Clone, Copy, Debug)]
@@ -38,7 +38,7 @@ fn shape_from<'a>(name: &'a Token, rest: &'a [Fragment]) -> VariableShape<'a>
 }
 
 fn shape_named<'a>(token: &'a Token, rest: &'a [Fragment]) -> VariableShape<'a>
-    ensures { reading.variable_named (roles.role_of token.now) token.now (items_of (seen_fragments rest.now)) ≡ variable_read result }
+    ensures { reading.variable_named (rules.role_of token.now) token.now (items_of (seen_fragments rest.now)) ≡ variable_read result }
 {
     match role_of(token) {
         Role::Named => shape_from(token, rest),

@@ -1,16 +1,18 @@
 -- Words of definitions, as the reader asks for them.
 use Rattle.std.specs.Prelude.{Bool, false, ◌&&◌, List}
 use Rattle.dy_tree.specs.declared.token.Token.{Token}
-use Rattle.dy_rules.specs.Definitions.{DefineWord, open_word, sealed_word, abstract_word, concrete_word, primary_word, free_word, is_open, is_sealed, is_abstract, is_concrete, is_primary, is_free, has}
+use Rattle.dy_tree.specs.declared.definition_words.DefineWord.{DefineWord}
+use Rattle.dy_tree.specs.declared.definition_words.DefineWord.TheVariants as define_words
+use Rattle.dy_rules.specs.Definitions.{is_open, is_sealed, is_abstract, is_concrete, is_primary, is_free, has}
 
 -- whether a word is this adjective of a class
 abbrev pub is_adjective : DefineWord → DefineWord → Bool
-is_adjective open_word word = is_open word
-is_adjective sealed_word word = is_sealed word
-is_adjective abstract_word word = is_abstract word
-is_adjective concrete_word word = is_concrete word
-is_adjective primary_word word = is_primary word
-is_adjective free_word word = is_free word
+is_adjective define_words.Open word = is_open word
+is_adjective define_words.Sealed word = is_sealed word
+is_adjective define_words.Abstract word = is_abstract word
+is_adjective define_words.Concrete word = is_concrete word
+is_adjective define_words.Primary word = is_primary word
+is_adjective define_words.Free word = is_free word
 is_adjective _ word = false
 
 abbrev pub has_both : DefineWord → DefineWord → List Token → Bool

@@ -2,14 +2,13 @@
 
 ghost use Rattle.std.specs.Prelude.{◌≡◌};
 ghost use Rattle.dy_rules.specs.Definitions as spec;
-ghost use Rattle.dy_read_words.specs.Seen.{seen_define_word};
 ghost use Rattle.dy_read_words.specs.Words.{has_both, is_adjective};
 
-use crate::define_word::{DefineWord, define_word_of};
-use dy_tree::Token;
+use crate::define_word::define_word_of;
+use dy_tree::{DefineWord, Token};
 
 fn is_class_adjective(word: DefineWord) -> bool
-    ensures { result ≡ spec.is_class_adjective (seen_define_word word) }
+    ensures { result ≡ spec.is_class_adjective word }
 {
     match word {
         DefineWord::Open | DefineWord::Sealed => true,
@@ -20,26 +19,26 @@ fn is_class_adjective(word: DefineWord) -> bool
 }
 
 fn is_open(word: DefineWord) -> bool
-    ensures { result ≡ spec.is_open (seen_define_word word) }
+    ensures { result ≡ spec.is_open word }
 {
     matches!(word, DefineWord::Open)
 }
 
 fn is_sealed(word: DefineWord) -> bool
-    ensures { result ≡ spec.is_sealed (seen_define_word word) }
+    ensures { result ≡ spec.is_sealed word }
 {
     matches!(word, DefineWord::Sealed)
 }
 
 fn is_inlining(word: DefineWord) -> bool
-    ensures { result ≡ spec.is_inlining (seen_define_word word) }
+    ensures { result ≡ spec.is_inlining word }
 {
     matches!(word, DefineWord::Inlining)
 }
 
 /// Whether a word is this adjective of a class.
 fn is_adjective(wanted: DefineWord, word: DefineWord) -> bool
-    ensures { result ≡ is_adjective (seen_define_word wanted) (seen_define_word word) }
+    ensures { result ≡ is_adjective wanted word }
 {
     match wanted {
         DefineWord::Open => is_open(word),
@@ -54,7 +53,7 @@ fn is_adjective(wanted: DefineWord, word: DefineWord) -> bool
 
 /// Whether one of the adjectives is this one.
 fn has(wanted: DefineWord, adjectives: &[Token]) -> bool
-    ensures { result ≡ spec.has (is_adjective (seen_define_word wanted)) adjectives.now }
+    ensures { result ≡ spec.has (is_adjective wanted) adjectives.now }
 {
     for adjective in adjectives {
         if is_adjective(wanted, define_word_of(adjective)) {
@@ -66,7 +65,7 @@ fn has(wanted: DefineWord, adjectives: &[Token]) -> bool
 
 /// Whether both of two adjectives that say the opposite are there.
 fn has_both(first: DefineWord, second: DefineWord, adjectives: &[Token]) -> bool
-    ensures { result ≡ has_both (seen_define_word first) (seen_define_word second) adjectives.now }
+    ensures { result ≡ has_both first second adjectives.now }
 {
     has(first, adjectives) && has(second, adjectives)
 }

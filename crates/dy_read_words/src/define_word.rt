@@ -3,74 +3,50 @@
 ghost use Rattle.std.specs.Prelude.{◌≡◌};
 ghost use Rattle.dy_rules.specs.Definitions as spec;
 ghost use Rattle.dy_rules.specs.Roles.{is_among};
-ghost use Rattle.dy_read_words.specs.Seen.{seen_define_word};
 
-use crate::role::{Role, role_of};
-use crate::spelling::is_same;
-use dy_tree::{Token, TokenKind};
+use crate::role::role_of;
+use dy_tree::{DefineWord, Role, Token, TokenKind};
 
-/// A word between `define` and what is defined.
-#[derive(Clone, Copy, Debug, PartialEq, Eq)]
-pub enum DefineWord {
-    Open,
-    Sealed,
-    Abstract,
-    Concrete,
-    Primary,
-    Free,
-    /// `inline` and the like.
-    Inlining,
-    Class,
-    Method,
-    Function,
-    Generic,
-    Constant,
-    Variable,
-    Domain,
-    /// No such word.
-    Absent,
+fn is_inlining_word(token: &Token) -> bool
+    ensures { result ≡ is_among spec.inlinings token.now }
+{
+    token.is_spelled(b"inline")
+        || token.is_spelled(b"not-inline")
+        || token.is_spelled(b"may-inline")
+        || token.is_spelled(b"default-inline")
+        || token.is_spelled(b"inline-only")
 }
 
-fn is_inlining_text(text: &[u8]) -> bool
-    ensures { result ≡ is_among spec.inlinings text.now }
+fn spelled_define_word(token: &Token) -> DefineWord
+    ensures { result ≡ spec.spelled_define_word token.now }
 {
-    is_same(text, b"inline")
-        || is_same(text, b"not-inline")
-        || is_same(text, b"may-inline")
-        || is_same(text, b"default-inline")
-        || is_same(text, b"inline-only")
-}
-
-fn define_word_text(text: &[u8]) -> DefineWord
-    ensures { seen_define_word result ≡ spec.define_word_text text.now }
-{
-    if is_same(text, b"open") {
+    if token.is_spelled(b"open") {
         DefineWord::Open
-    } else if is_same(text, b"sealed") {
+    } else if token.is_spelled(b"sealed") {
         DefineWord::Sealed
-    } else if is_same(text, b"abstract") {
+    } else if token.is_spelled(b"abstract") {
         DefineWord::Abstract
-    } else if is_same(text, b"concrete") {
+    } else if token.is_spelled(b"concrete") {
         DefineWord::Concrete
-    } else if is_same(text, b"primary") {
+    } else if token.is_spelled(b"primary") {
         DefineWord::Primary
-    } else if is_same(text, b"free") {
+    } else if token.is_spelled(b"free") {
         DefineWord::Free
-    } else if is_inlining_text(text) {
+    } else if is_inlining_word(token) {
         DefineWord::Inlining
-    } else if is_same(text, b"class") {
+    } else if token.is_spelled(b"class") {
         DefineWord::Class
-    } else if is_same(text, b"method") {
+    } else if token.is_spelled(b"method") {
         DefineWord::Method
-    } else if is_same(text, b"function") {
+    } else if token.is_spelled(b"function") {
         DefineWord::Function
-    } else if is_same(text, b"generic") {
+    } else if token.is_spelled(b"generic") {
         DefineWord::Generic
-    } else if is_same(text, b"constant") {
+    } else if token.is_spelled(b"constant") {
         DefineWord::Constant
-    } else if is_same(text, b"variable") {
+    } else if token.is_spelled(b"variable") {
         DefineWord::Variable
-    } else if is_same(text, b"domain") {
+    } else if token.is_spelled(b"domain") {
         DefineWord::Domain
     } else {
         DefineWord::Absent
@@ -79,11 +55,11 @@ fn define_word_text(text: &[u8]) -> DefineWord
 
 /// Which of these words a token is. An escaped name is none.
 pub fn define_word_of(token: &Token) -> DefineWord
-    ensures { seen_define_word result ≡ spec.define_word_of token.now }
+    ensures { result ≡ spec.define_word_of token.now }
 {
     match role_of(token) {
         Role::Named => match token.kind {
-            TokenKind::Name => define_word_text(token.text.bytes()),
+            TokenKind::Name => spelled_define_word(token),
             _ => DefineWord::Absent,
         },
         _ => DefineWord::Absent,
@@ -91,7 +67,7 @@ pub fn define_word_of(token: &Token) -> DefineWord
 }
 
 fn is_definition(word: DefineWord) -> bool
-    ensures { result ≡ spec.is_definition (seen_define_word word) }
+    ensures { result ≡ spec.is_definition word }
 {
     match word {
         DefineWord::Class | DefineWord::Method | DefineWord::Function => true,

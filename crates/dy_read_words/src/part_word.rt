@@ -6,38 +6,21 @@ ghost use Rattle.dy_rules.specs.Fragments.{items_of};
 ghost use Rattle.dy_rules.specs.Signatures as signatures;
 ghost use Rattle.dy_rules.specs.TypeReading as types;
 ghost use Rattle.dy_rules.specs.Types as spec;
-ghost use Rattle.dy_read_words.specs.Seen.{seen_part_word};
 
 use crate::alone::token_alone;
 use crate::sign::is_mark;
-use crate::spelling::is_same;
-use dy_tree::{Fragment, Token, TokenKind};
+use dy_tree::{Fragment, PartWord, Token, TokenKind};
 
-/// A mark of a parameter list.
-#[derive(Clone, Copy, Debug, PartialEq, Eq)]
-pub enum PartWord {
-    /// `#next`
-    Next,
-    /// `#rest`
-    Rest,
-    /// `#key`
-    Key,
-    /// `#all-keys`
-    AllKeys,
-    /// No such mark.
-    Absent,
-}
-
-fn part_word_text(text: &[u8]) -> PartWord
-    ensures { seen_part_word result ≡ spec.part_word_text text.now }
+fn spelled_part_word(token: &Token) -> PartWord
+    ensures { result ≡ spec.spelled_part_word token.now }
 {
-    if is_same(text, b"#next") {
+    if token.is_spelled(b"#next") {
         PartWord::Next
-    } else if is_same(text, b"#rest") {
+    } else if token.is_spelled(b"#rest") {
         PartWord::Rest
-    } else if is_same(text, b"#key") {
+    } else if token.is_spelled(b"#key") {
         PartWord::Key
-    } else if is_same(text, b"#all-keys") {
+    } else if token.is_spelled(b"#all-keys") {
         PartWord::AllKeys
     } else {
         PartWord::Absent
@@ -46,17 +29,17 @@ fn part_word_text(text: &[u8]) -> PartWord
 
 /// Which of these marks a token is.
 pub fn part_word(token: &Token) -> PartWord
-    ensures { seen_part_word result ≡ spec.part_word token.now }
+    ensures { result ≡ spec.part_word token.now }
 {
     match token.kind {
-        TokenKind::Mark => part_word_text(token.text.bytes()),
+        TokenKind::Mark => spelled_part_word(token),
         _ => PartWord::Absent,
     }
 }
 
 /// How a part of a parameter list begins.
 pub fn part_kind(fragment: &Fragment) -> PartWord
-    ensures { seen_part_word result ≡ signatures.part_kind (seen_fragment fragment.now) }
+    ensures { result ≡ signatures.part_kind (seen_fragment fragment.now) }
 {
     match fragment {
         Fragment::One(token) => part_word(token),

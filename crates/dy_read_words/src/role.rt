@@ -1,168 +1,114 @@
 //! What tokens are to the grammar (DRM 2 and appendix A).
 
-ghost use Rattle.std.specs.Prelude.{◌≡◌, [], ◌∷◌, codes, Option, option_map};
+ghost use Rattle.std.specs.Prelude.{◌≡◌, [], ◌∷◌, codes};
 ghost use Rattle.dy_rules.specs.Roles as spec;
-ghost use Rattle.dy_read_words.specs.Seen.{seen_role, seen_precedence};
 
-use crate::spelling::is_same;
-use dy_tree::{Token, TokenKind};
-
-/// The left associative operators, those that bind tightest first.
-#[derive(Clone, Copy, Debug, PartialEq, Eq)]
-pub enum Precedence {
-    /// `^`
-    Power,
-    /// `*` and `/`
-    Product,
-    /// `+` and `-`
-    Sum,
-    /// `=`, `==`, `<`, `>`, `<=`, `>=`, `~=` and `~==`
-    Comparison,
-    /// `&` and `|`
-    Logical,
-}
-
-/// What a token is to the grammar.
-#[derive(Clone, Copy, Debug, PartialEq, Eq)]
-pub enum Role {
-    Integer,
-    Character,
-    Text,
-    Boolean,
-    Symbol,
-    Named,
-    /// An operator of two operands.
-    Operator(Precedence),
-    /// `-`, which has two operands or one.
-    Minus,
-    /// `~`
-    Tilde,
-    /// `:=`
-    Assigns,
-    Dot,
-    Comma,
-    Semicolon,
-    /// `=>`
-    Arrow,
-    /// `::`
-    Colons,
-    /// `let`
-    Lets,
-    /// `local`
-    Locals,
-    /// `handler`
-    Handlers,
-    /// `otherwise`
-    Remains,
-    /// `define`
-    Defines,
-    Other,
-}
+use dy_tree::{Precedence, Role, Token, TokenKind};
 
 /// Whether a name is a word in every module, and no name to the grammar.
-fn is_reserved(text: &[u8]) -> bool
-    ensures { result ≡ spec.is_among spec.reserved text.now }
+fn is_reserved(token: &Token) -> bool
+    ensures { result ≡ spec.is_among spec.reserved token.now }
 {
-    is_same(text, b"end") || is_same(text, b"macro")
+    token.is_spelled(b"end") || token.is_spelled(b"macro")
 }
 
-fn name_role(text: &[u8]) -> Role
-    ensures { seen_role result ≡ spec.name_role text.now }
+fn name_role(token: &Token) -> Role
+    ensures { result ≡ spec.name_role token.now }
 {
-    if is_same(text, b"let") {
+    if token.is_spelled(b"let") {
         Role::Lets
-    } else if is_same(text, b"local") {
+    } else if token.is_spelled(b"local") {
         Role::Locals
-    } else if is_same(text, b"handler") {
+    } else if token.is_spelled(b"handler") {
         Role::Handlers
-    } else if is_same(text, b"otherwise") {
+    } else if token.is_spelled(b"otherwise") {
         Role::Remains
-    } else if is_same(text, b"define") {
+    } else if token.is_spelled(b"define") {
         Role::Defines
-    } else if is_reserved(text) {
+    } else if is_reserved(token) {
         Role::Other
     } else {
         Role::Named
     }
 }
 
-fn is_boolean(text: &[u8]) -> bool
-    ensures { result ≡ spec.is_among (codes "#t" ∷ codes "#f" ∷ []) text.now }
+fn is_boolean(token: &Token) -> bool
+    ensures { result ≡ spec.is_among (codes "#t" ∷ codes "#f" ∷ []) token.now }
 {
-    is_same(text, b"#t") || is_same(text, b"#f")
+    token.is_spelled(b"#t") || token.is_spelled(b"#f")
 }
 
 fn mark_role(token: &Token) -> Role
-    ensures { seen_role result ≡ spec.mark_role token.now }
+    ensures { result ≡ spec.mark_role token.now }
 {
-    if is_boolean(token.text.bytes()) {
+    if is_boolean(token) {
         Role::Boolean
     } else {
         Role::Other
     }
 }
 
-fn is_product(text: &[u8]) -> bool
-    ensures { result ≡ spec.is_among (codes "*" ∷ codes "/" ∷ []) text.now }
+fn is_product(token: &Token) -> bool
+    ensures { result ≡ spec.is_among (codes "*" ∷ codes "/" ∷ []) token.now }
 {
-    is_same(text, b"*") || is_same(text, b"/")
+    token.is_spelled(b"*") || token.is_spelled(b"/")
 }
 
-fn is_comparison(text: &[u8]) -> bool
-    ensures { result ≡ spec.is_among (codes "=" ∷ codes "==" ∷ codes "<" ∷ codes ">" ∷ codes "<=" ∷ codes ">=" ∷ codes "~=" ∷ codes "~==" ∷ []) text.now }
+fn is_comparison(token: &Token) -> bool
+    ensures { result ≡ spec.is_among (codes "=" ∷ codes "==" ∷ codes "<" ∷ codes ">" ∷ codes "<=" ∷ codes ">=" ∷ codes "~=" ∷ codes "~==" ∷ []) token.now }
 {
-    is_same(text, b"=")
-        || is_same(text, b"==")
-        || is_same(text, b"<")
-        || is_same(text, b">")
-        || is_same(text, b"<=")
-        || is_same(text, b">=")
-        || is_same(text, b"~=")
-        || is_same(text, b"~==")
+    token.is_spelled(b"=")
+        || token.is_spelled(b"==")
+        || token.is_spelled(b"<")
+        || token.is_spelled(b">")
+        || token.is_spelled(b"<=")
+        || token.is_spelled(b">=")
+        || token.is_spelled(b"~=")
+        || token.is_spelled(b"~==")
 }
 
-fn is_logical(text: &[u8]) -> bool
-    ensures { result ≡ spec.is_among (codes "&" ∷ codes "|" ∷ []) text.now }
+fn is_logical(token: &Token) -> bool
+    ensures { result ≡ spec.is_among (codes "&" ∷ codes "|" ∷ []) token.now }
 {
-    is_same(text, b"&") || is_same(text, b"|")
+    token.is_spelled(b"&") || token.is_spelled(b"|")
 }
 
-fn operator_role(text: &[u8]) -> Role
-    ensures { seen_role result ≡ spec.operator_role text.now }
+fn operator_role(token: &Token) -> Role
+    ensures { result ≡ spec.operator_role token.now }
 {
-    if is_same(text, b"-") {
+    if token.is_spelled(b"-") {
         Role::Minus
-    } else if is_same(text, b"~") {
+    } else if token.is_spelled(b"~") {
         Role::Tilde
-    } else if is_same(text, b":=") {
+    } else if token.is_spelled(b":=") {
         Role::Assigns
-    } else if is_same(text, b"^") {
+    } else if token.is_spelled(b"^") {
         Role::Operator(Precedence::Power)
-    } else if is_product(text) {
+    } else if is_product(token) {
         Role::Operator(Precedence::Product)
-    } else if is_same(text, b"+") {
+    } else if token.is_spelled(b"+") {
         Role::Operator(Precedence::Sum)
-    } else if is_comparison(text) {
+    } else if is_comparison(token) {
         Role::Operator(Precedence::Comparison)
-    } else if is_logical(text) {
+    } else if is_logical(token) {
         Role::Operator(Precedence::Logical)
     } else {
         Role::Other
     }
 }
 
-fn punctuation_role(text: &[u8]) -> Role
-    ensures { seen_role result ≡ spec.punctuation_role text.now }
+fn punctuation_role(token: &Token) -> Role
+    ensures { result ≡ spec.punctuation_role token.now }
 {
-    if is_same(text, b".") {
+    if token.is_spelled(b".") {
         Role::Dot
-    } else if is_same(text, b",") {
+    } else if token.is_spelled(b",") {
         Role::Comma
-    } else if is_same(text, b";") {
+    } else if token.is_spelled(b";") {
         Role::Semicolon
-    } else if is_same(text, b"=>") {
+    } else if token.is_spelled(b"=>") {
         Role::Arrow
-    } else if is_same(text, b"::") {
+    } else if token.is_spelled(b"::") {
         Role::Colons
     } else {
         Role::Other
@@ -171,10 +117,10 @@ fn punctuation_role(text: &[u8]) -> Role
 
 /// What a token is to the grammar.
 pub fn role_of(token: &Token) -> Role
-    ensures { seen_role result ≡ spec.role_of token.now }
+    ensures { result ≡ spec.role_of token.now }
 {
     match token.kind {
-        TokenKind::Name => name_role(token.text.bytes()),
+        TokenKind::Name => name_role(token),
         TokenKind::Escaped => Role::Named,
         TokenKind::Symbol => Role::Symbol,
         TokenKind::Int => Role::Integer,
@@ -183,14 +129,14 @@ pub fn role_of(token: &Token) -> Role
         TokenKind::Mark => mark_role(token),
         TokenKind::PatternVar => Role::Other,
         TokenKind::CallSite => Role::Other,
-        TokenKind::Operator => operator_role(token.text.bytes()),
-        TokenKind::Punctuation => punctuation_role(token.text.bytes()),
+        TokenKind::Operator => operator_role(token),
+        TokenKind::Punctuation => punctuation_role(token),
     }
 }
 
 /// How tightly an operator of two operands binds.
 pub fn precedence_of(role: Role) -> Option<Precedence>
-    ensures { option_map seen_precedence result ≡ spec.precedence_of (seen_role role) }
+    ensures { result ≡ spec.precedence_of role }
 {
     match role {
         Role::Operator(precedence) => Some(precedence),

@@ -3,11 +3,9 @@
 ghost use Rattle.std.specs.Prelude.{◌≡◌};
 ghost use Rattle.dy_rules.specs.Productions as productions;
 ghost use Rattle.dy_rules.specs.Types as spec;
-ghost use Rattle.dy_read_words.specs.Seen.{seen_role};
 
-use crate::role::{Precedence, Role, role_of};
-use crate::spelling::is_same;
-use dy_tree::{Token, TokenKind};
+use crate::role::role_of;
+use dy_tree::{Precedence, Role, Token, TokenKind};
 
 fn is_mark_kind(kind: TokenKind) -> bool
     ensures { result ≡ spec.is_mark_kind kind }
@@ -25,14 +23,14 @@ fn is_symbol_kind(kind: TokenKind) -> bool
 pub fn is_mark(text: &[u8], token: &Token) -> bool
     ensures { result ≡ spec.is_mark text.now token.now }
 {
-    is_mark_kind(token.kind) && is_same(text, token.text.bytes())
+    is_mark_kind(token.kind) && token.is_spelled(text)
 }
 
 /// Whether a token is this symbol.
 pub fn is_symbol_of(text: &[u8], token: &Token) -> bool
     ensures { result ≡ spec.is_symbol_of text.now token.now }
 {
-    is_symbol_kind(token.kind) && is_same(text, token.text.bytes())
+    is_symbol_kind(token.kind) && token.is_spelled(text)
 }
 
 /// Whether a token is `min:` or `max:`.
@@ -46,12 +44,12 @@ pub fn is_bound(token: &Token) -> bool
 pub fn is_stop_word(token: &Token) -> bool
     ensures { result ≡ productions.is_stop_word token.now }
 {
-    let text = token.text.bytes();
-    matches!(role_of(token), Role::Symbol) && (is_same(b"while", text) || is_same(b"until", text))
+    matches!(role_of(token), Role::Symbol)
+        && (token.is_spelled(b"while") || token.is_spelled(b"until"))
 }
 
 fn is_comparison(role: Role) -> bool
-    ensures { result ≡ spec.is_comparison (seen_role role) }
+    ensures { result ≡ spec.is_comparison role }
 {
     match role {
         Role::Operator(precedence) => matches!(precedence, Precedence::Comparison),
@@ -63,12 +61,12 @@ fn is_comparison(role: Role) -> bool
 pub fn is_identity(token: &Token) -> bool
     ensures { result ≡ spec.is_identity token.now }
 {
-    is_comparison(role_of(token)) && is_same(b"==", token.text.bytes())
+    is_comparison(role_of(token)) && token.is_spelled(b"==")
 }
 
 /// Whether a token is `=`.
 pub fn is_equals(token: &Token) -> bool
     ensures { result ≡ spec.is_equals token.now }
 {
-    is_comparison(role_of(token)) && is_same(b"=", token.text.bytes())
+    is_comparison(role_of(token)) && token.is_spelled(b"=")
 }

@@ -3,41 +3,27 @@
 ghost use Rattle.std.specs.Prelude.{◌≡◌, [], ◌∷◌, codes};
 ghost use Rattle.dy_rules.specs.Definitions as spec;
 ghost use Rattle.dy_rules.specs.Roles.{is_among};
-ghost use Rattle.dy_read_words.specs.Seen.{seen_slot_word};
 
-use crate::role::{Role, role_of};
-use crate::spelling::is_same;
-use dy_tree::{Token, TokenKind};
+use crate::role::role_of;
+use dy_tree::{Role, SlotWord, Token, TokenKind};
 
-/// A word at the front of a slot.
-#[derive(Clone, Copy, Debug, PartialEq, Eq)]
-pub enum SlotWord {
-    Constant,
-    /// `instance`, `class`, `each-subclass` or `virtual`.
-    Allocation,
-    /// `slot`
-    Slot,
-    /// No such word.
-    Absent,
+fn is_allocation_word(token: &Token) -> bool
+    ensures { result ≡ is_among (codes "instance" ∷ codes "class" ∷ codes "each-subclass" ∷ codes "virtual" ∷ []) token.now }
+{
+    token.is_spelled(b"instance")
+        || token.is_spelled(b"class")
+        || token.is_spelled(b"each-subclass")
+        || token.is_spelled(b"virtual")
 }
 
-fn is_allocation_text(text: &[u8]) -> bool
-    ensures { result ≡ is_among (codes "instance" ∷ codes "class" ∷ codes "each-subclass" ∷ codes "virtual" ∷ []) text.now }
+fn spelled_slot_word(token: &Token) -> SlotWord
+    ensures { result ≡ spec.spelled_slot_word token.now }
 {
-    is_same(text, b"instance")
-        || is_same(text, b"class")
-        || is_same(text, b"each-subclass")
-        || is_same(text, b"virtual")
-}
-
-fn slot_word_text(text: &[u8]) -> SlotWord
-    ensures { seen_slot_word result ≡ spec.slot_word_text text.now }
-{
-    if is_same(text, b"constant") {
+    if token.is_spelled(b"constant") {
         SlotWord::Constant
-    } else if is_allocation_text(text) {
+    } else if is_allocation_word(token) {
         SlotWord::Allocation
-    } else if is_same(text, b"slot") {
+    } else if token.is_spelled(b"slot") {
         SlotWord::Slot
     } else {
         SlotWord::Absent
@@ -46,11 +32,11 @@ fn slot_word_text(text: &[u8]) -> SlotWord
 
 /// Which of these words a token is. An escaped name is none.
 pub fn slot_word_of(token: &Token) -> SlotWord
-    ensures { seen_slot_word result ≡ spec.slot_word_of token.now }
+    ensures { result ≡ spec.slot_word_of token.now }
 {
     match role_of(token) {
         Role::Named => match token.kind {
-            TokenKind::Name => slot_word_text(token.text.bytes()),
+            TokenKind::Name => spelled_slot_word(token),
             _ => SlotWord::Absent,
         },
         _ => SlotWord::Absent,
@@ -65,13 +51,13 @@ pub fn is_slot_word(token: &Token) -> bool
 }
 
 fn is_constant_slot(word: SlotWord) -> bool
-    ensures { result ≡ spec.is_constant_slot (seen_slot_word word) }
+    ensures { result ≡ spec.is_constant_slot word }
 {
     matches!(word, SlotWord::Constant)
 }
 
 fn is_allocation(word: SlotWord) -> bool
-    ensures { result ≡ spec.is_allocation (seen_slot_word word) }
+    ensures { result ≡ spec.is_allocation word }
 {
     matches!(word, SlotWord::Allocation)
 }

@@ -2,32 +2,17 @@
 
 ghost use Rattle.std.specs.Prelude.{◌≡◌};
 ghost use Rattle.dy_rules.specs.Types as spec;
-ghost use Rattle.dy_read_words.specs.Seen.{seen_type_word};
 
-use crate::spelling::is_same;
-use dy_tree::{Token, TokenKind};
+use dy_tree::{Token, TokenKind, TypeWord};
 
-/// A word that brackets stand behind in a type.
-#[derive(Clone, Copy, Debug, PartialEq, Eq)]
-pub enum TypeWord {
-    /// `singleton`
-    Singleton,
-    /// `type-union`
-    Union,
-    /// `limited`
-    Limited,
-    /// No such word.
-    Absent,
-}
-
-fn type_word_text(text: &[u8]) -> TypeWord
-    ensures { seen_type_word result ≡ spec.type_word_text text.now }
+fn spelled_type_word(token: &Token) -> TypeWord
+    ensures { result ≡ spec.spelled_type_word token.now }
 {
-    if is_same(text, b"singleton") {
+    if token.is_spelled(b"singleton") {
         TypeWord::Singleton
-    } else if is_same(text, b"type-union") {
+    } else if token.is_spelled(b"type-union") {
         TypeWord::Union
-    } else if is_same(text, b"limited") {
+    } else if token.is_spelled(b"limited") {
         TypeWord::Limited
     } else {
         TypeWord::Absent
@@ -36,10 +21,10 @@ fn type_word_text(text: &[u8]) -> TypeWord
 
 /// Which of these words a token is. An escaped name is none.
 pub fn type_word(token: &Token) -> TypeWord
-    ensures { seen_type_word result ≡ spec.type_word token.now }
+    ensures { result ≡ spec.type_word token.now }
 {
     match token.kind {
-        TokenKind::Name => type_word_text(token.text.bytes()),
+        TokenKind::Name => spelled_type_word(token),
         _ => TypeWord::Absent,
     }
 }

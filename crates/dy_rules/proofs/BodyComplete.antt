@@ -4,9 +4,17 @@ use Rattle.dy_tree.specs.declared.token.Token.{Token}
 use Rattle.dy_tree.specs.Fragments.{SeenFragment, one, group, SeenFragments, no_fragment}
 use Rattle.dy_rules.specs.Trees.{Tree, ItemTree, let_item, handler_item, expression_item, Alternative, Otherwise, no_otherwise, Arm, local_item, LocalMethod, methods_of}
 use Rattle.std.specs.List.{list_any}
-use Rattle.dy_rules.specs.Operators.{power, product, sum, comparison, logical}
+use Rattle.dy_tree.specs.declared.roles.Role.{Role}
+use Rattle.dy_tree.specs.declared.roles.Role.TheVariants as roles
+use Rattle.dy_tree.specs.declared.roles.Precedence.TheVariants as precedences
+use Rattle.dy_tree.specs.declared.brackets.Keyword.TheVariants as keywords
+use Rattle.dy_tree.specs.declared.brackets.Bracket.{Bracket}
+use Rattle.dy_tree.specs.declared.brackets.Bracket.TheVariants as brackets
+use Rattle.dy_tree.specs.declared.splitters.Splitting.{Splitting}
+use Rattle.dy_tree.specs.declared.splitters.Splitting.TheVariants as splittings
+use Rattle.dy_tree.specs.Spelling.{is_spelled}
 use Rattle.dy_rules.specs.Types.{is_comparison, is_equals, TypeTree, a_type, IsType, is_splitting, binds_plainly, TargetTree, IsTarget, by_variable, by_nothing, by_brackets, untyped, typed}
-use Rattle.dy_rules.specs.Roles.{Role, operator, named, colons, lets, handlers, is_same, semicolon, role_of, Splitting, branches, splits, Bracket, statement, bracket_of, locals, comma, method_word}
+use Rattle.dy_rules.specs.Roles.{role_of, splits, bracket_of}
 use Rattle.dy_rules.specs.Cutting.{Sides, Item, Piece, Pieces, is_semicolon, is_let, is_splitter, cut, with_others, each, without_end, without_if, is_arrow, NamedFound, cut_if}
 use Rattle.dy_rules.specs.Reading.{State, whole, wants, tree_of, expression_items}
 use Rattle.dy_rules.specs.Bodies.{ItemFront, let_front, other_front, front_by, front_of_item, is_equals_at, is_handler_role, is_handler, let_of, handler_of, let_with, handler_with, bound_at, bound_from, let_if, let_sides, item_by, item_items, nonempty_body, body_items, local_front, method_tree_of, method_in, method_alone, local_of}
@@ -70,7 +78,7 @@ pub record BodyRead (words : Splitting) (trees : List ItemTree) (fragments : Lis
 
 pub record AlternativesRead (trees : List Alternative) (last : Otherwise) (fragments : List SeenFragment) : Type 0 where
   pub others : List Piece
-  pub pieces : (front : List SeenFragment) → Closed (is_splitter branches) false front → cut (is_splitter branches) false (items_of (front ++ fragments)) ≡ record { first = items_of front; others = others }
+  pub pieces : (front : List SeenFragment) → Closed (is_splitter splittings.Branches) false front → cut (is_splitter splittings.Branches) false (items_of (front ++ fragments)) ≡ record { first = items_of front; others = others }
   pub found : others_of others ≡ Some (record { trees = trees; last = last })
 
 pub open_on : (before : Fragments) (first : SeenFragment) (rest : Fragments) → Open (first ∷ rest) → Open (before ++ first ∷ rest)
@@ -95,8 +103,8 @@ front_of_inner words (group opener inner closer) e = refl
 front_of_inner words (one token) e = go (role_of token) (and_true (inner_role (role_of token)) (not (splits words token)) e)
   where
     go : (role : Role) → inner_role role ≡ true → front_by role token ≡ other_front
-    go lets f = absurd cc
-    go locals f = absurd cc
+    go roles.Lets f = absurd cc
+    go roles.Locals f = absurd cc
     go role f = refl
 
     and_true : (a b : Bool) → (a && b) ≡ true → a ≡ true
@@ -126,8 +134,8 @@ quiet_separates words separates s (group opener inner closer) e f = s.inner (gro
 quiet_separates words separates s (one token) e f = go (role_of token) refl e
   where
     go : (role : Role) → role_of token ≡ role → quiet_role role ≡ true → separates (one token) ≡ false
-    go named is g = s.inner (one token) (inner_if words token (rw is refl) f)
-    go colons is g = s.others token (rw is refl)
+    go roles.Named is g = s.inner (one token) (inner_if words token (rw is refl) f)
+    go roles.Colons is g = s.others token (rw is refl)
     go role is g = absurd cc
 
 or_false : (a b : Bool) → (a || b) ≡ false → (a ≡ false) × (b ≡ false)
@@ -141,21 +149,21 @@ bound_closed words separates s (first ∷ rest) (is, h) e =
     let (plainly, more) = or_false (is_splitting words first) (list_any (is_splitting words) rest) e in
     (quiet_separates words separates s first is plainly, subst (λ (b : Bool). Closed separates b rest) (sym (quiet_no_let first is)) (bound_closed words separates s rest h more))
 
-pub comparison_is : (role : Role) (b : Bool) → (is_comparison role && b) ≡ true → role ≡ operator comparison
-comparison_is (operator comparison) b e = refl
-comparison_is (operator power) b e = absurd cc
-comparison_is (operator product) b e = absurd cc
-comparison_is (operator sum) b e = absurd cc
-comparison_is (operator logical) b e = absurd cc
+pub comparison_is : (role : Role) (b : Bool) → (is_comparison role && b) ≡ true → role ≡ roles.Operator precedences.Comparison
+comparison_is (roles.Operator precedences.Comparison) b e = refl
+comparison_is (roles.Operator precedences.Power) b e = absurd cc
+comparison_is (roles.Operator precedences.Product) b e = absurd cc
+comparison_is (roles.Operator precedences.Sum) b e = absurd cc
+comparison_is (roles.Operator precedences.Logical) b e = absurd cc
 comparison_is role b e = absurd cc
 
 pub equals_inner : (words : Splitting) (equals : Token) → is_equals equals ≡ true → (is_inner words (one equals) ≡ true) × (is_let (one equals) ≡ false)
-equals_inner words equals e = let is = comparison_is (role_of equals) (is_same (codes "=") equals.text) e in (rw (is, splits_no_splitter words) refl, rw is refl)
+equals_inner words equals e = let is = comparison_is (role_of equals) (is_spelled (codes "=") equals) e in (rw (is, splits_no_splitter words) refl, rw is refl)
 
-let_separates : (token : Token) → role_of token ≡ lets → (item_role (role_of token) ≡ true) × (is_let (one token) ≡ true)
+let_separates : (token : Token) → role_of token ≡ roles.Lets → (item_role (role_of token) ≡ true) × (is_let (one token) ≡ true)
 let_separates token is = (rw is refl, rw is refl)
 
-let_closed : (words : Splitting) (separates : SeenFragment → Bool) → Separating words separates → (word equals : Token) (first : SeenFragment) (more after : Fragments) → role_of word ≡ lets → is_let first ≡ false → Quiet more → list_any (is_splitting words) more ≡ false → is_equals equals ≡ true → Inner words after
+let_closed : (words : Splitting) (separates : SeenFragment → Bool) → Separating words separates → (word equals : Token) (first : SeenFragment) (more after : Fragments) → role_of word ≡ roles.Lets → is_let first ≡ false → Quiet more → list_any (is_splitting words) more ≡ false → is_equals equals ≡ true → Inner words after
     → Closed separates false (one word ∷ first ∷ (more ++ one equals ∷ after))
 let_closed words separates s word equals first more after role plain_first quiet plainly is h =
     let (item, lets_is) = let_separates word role in
@@ -173,16 +181,16 @@ quiet_no_handler (group opener inner closer) e = refl
 quiet_no_handler (one token) e = go (role_of token) e
   where
     go : (role : Role) → quiet_role role ≡ true → is_handler_role role ≡ false
-    go handlers f = absurd cc
+    go roles.Handlers f = absurd cc
     go role f = refl
 
 quiet_no_equals : (fragment : SeenFragment) → is_quiet fragment ≡ true → is_equals_at fragment ≡ false
 quiet_no_equals (group opener inner closer) e = refl
 quiet_no_equals (one token) e = go (role_of token) e
   where
-    go : (role : Role) → quiet_role role ≡ true → (is_comparison role && is_same (codes "=") token.text) ≡ false
-    go named f = refl
-    go colons f = refl
+    go : (role : Role) → quiet_role role ≡ true → (is_comparison role && is_spelled (codes "=") token) ≡ false
+    go roles.Named f = refl
+    go roles.Colons f = refl
     go role f = absurd cc
 
 pub no_equals_in : (fragments : Fragments) → Quiet fragments → Never is_equals_at fragments
@@ -200,11 +208,11 @@ target_some target fragments (by_variable variable all (typed token sign type af
 target_some target fragments (by_nothing opener closer is) = (group opener no_fragment closer, [], refl)
 target_some target fragments (by_brackets variables rest opener inner closer is h) = (group opener inner closer, [], refl)
 
-let_front_is : (word : Token) → role_of word ≡ lets → front_of_item (one word) ≡ let_front word
+let_front_is : (word : Token) → role_of word ≡ roles.Lets → front_of_item (one word) ≡ let_front word
 let_front_is word is = rw is refl
 
 -- what is bound and its value, behind a `let`
-let_reads : (words : Splitting) (word equals : Token) (before after : Fragments) (tree : ItemTree) → role_of word ≡ lets → is_equals equals ≡ true → Never is_equals_at before → binds_plainly words before ≡ true → bound_from words word (items_of before) (items_of after) ≡ Some tree
+let_reads : (words : Splitting) (word equals : Token) (before after : Fragments) (tree : ItemTree) → role_of word ≡ roles.Lets → is_equals equals ≡ true → Never is_equals_at before → binds_plainly words before ≡ true → bound_from words word (items_of before) (items_of after) ≡ Some tree
     → item_items words (items_of (one word ∷ (before ++ one equals ∷ after))) ≡ Some tree
 let_reads words word equals before after tree role is never plainly e =
     ap (λ (front : ItemFront). item_by front words (item_of (one word)) (items_of (before ++ one equals ∷ after))) (let_front_is word role)
@@ -222,10 +230,10 @@ target_bound words word target assigned first more after quiet t e =
     ap (λ (b : Bool). bound_at b words word (item_of first) (items_of more) (items_of after)) (quiet_no_handler first quiet)
     ∙ ap (λ (o : Option TargetTree). option_and_then (let_with words word (items_of after)) o) (target_complete target (first ∷ more) t) ∙ ap (option_map (let_of word target)) e
 
-let_no_remains : (word : Token) → role_of word ≡ lets → is_remains (one word) ≡ false
+let_no_remains : (word : Token) → role_of word ≡ roles.Lets → is_remains (one word) ≡ false
 let_no_remains word is = rw is refl
 
-let_from : (words : Splitting) (word equals : Token) (target : TargetTree) (assigned : Tree) (first : SeenFragment) (more after : Fragments) → role_of word ≡ lets → is_equals equals ≡ true → IsTarget target (first ∷ more) → Quiet (first ∷ more) → not (list_any (is_splitting words) more) ≡ true
+let_from : (words : Splitting) (word equals : Token) (target : TargetTree) (assigned : Tree) (first : SeenFragment) (more after : Fragments) → role_of word ≡ roles.Lets → is_equals equals ≡ true → IsTarget target (first ∷ more) → Quiet (first ∷ more) → not (list_any (is_splitting words) more) ≡ true
     → (state : State) → reads words (wants whole) after ≡ Some state → tree_of state ≡ Some assigned → ItemRead words (let_item word target assigned) (one word ∷ first ∷ (more ++ one equals ∷ after))
 let_from words word equals target assigned first more after role is t (quiet, calm) plainly state e f =
     let h = reads_inner words after (wants whole) state e in
@@ -240,23 +248,23 @@ let_from words word equals target assigned first more after role is t (quiet, ca
     not_true true g = absurd cc
     not_true false g = refl
 
-pub let_item_read : (words : Splitting) (word equals : Token) (target : TargetTree) (assigned : Tree) (before after all : Fragments) → all ≡ one word ∷ (before ++ one equals ∷ after) → role_of word ≡ lets → is_equals equals ≡ true → IsTarget target before → binds_plainly words before ≡ true
+pub let_item_read : (words : Splitting) (word equals : Token) (target : TargetTree) (assigned : Tree) (before after all : Fragments) → all ≡ one word ∷ (before ++ one equals ∷ after) → role_of word ≡ roles.Lets → is_equals equals ≡ true → IsTarget target before → binds_plainly words before ≡ true
     → (state : State) → reads words (wants whole) after ≡ Some state → tree_of state ≡ Some assigned → ItemRead words (let_item word target assigned) all
 let_item_read words word equals target assigned [] after all parts role is t plainly state e f = let (first, rest, g) = target_some target [] t in absurd cc
 let_item_read words word equals target assigned (first ∷ more) after all parts role is t plainly state e f =
     subst (ItemRead words (let_item word target assigned)) (sym parts) (let_from words word equals target assigned first more after role is t (target_quiet target (first ∷ more) t) plainly state e f)
 
-handler_reads : (second : Token) → role_of second ≡ handlers → (is_handler (one second) ≡ true) × (is_equals_at (one second) ≡ false) × (is_let (one second) ≡ false)
+handler_reads : (second : Token) → role_of second ≡ roles.Handlers → (is_handler (one second) ≡ true) × (is_equals_at (one second) ≡ false) × (is_let (one second) ≡ false)
 handler_reads second is = (rw is refl, rw is refl, rw is refl)
 
-handler_bound : (words : Splitting) (word second : Token) (condition : TypeTree) (handler : Tree) (before after : Fragments) → role_of second ≡ handlers → IsType (a_type condition) before → expression_items words (items_of after) ≡ Some handler
+handler_bound : (words : Splitting) (word second : Token) (condition : TypeTree) (handler : Tree) (before after : Fragments) → role_of second ≡ roles.Handlers → IsType (a_type condition) before → expression_items words (items_of after) ≡ Some handler
     → bound_from words word (items_of (one second ∷ before)) (items_of after) ≡ Some (handler_item word condition handler)
 handler_bound words word second condition handler before after role t e =
     let (is, no_equals, no_let) = handler_reads second role in
     ap (λ (b : Bool). bound_at b words word (item_of (one second)) (items_of before) (items_of after)) is
     ∙ ap (λ (o : Option TypeTree). option_and_then (handler_with words word (items_of after)) o) (whole_type_reads condition before (type_complete (a_type condition) before t)) ∙ ap (option_map (handler_of word condition)) e
 
-handler_from : (words : Splitting) (word second equals : Token) (condition : TypeTree) (handler : Tree) (before after : Fragments) → role_of word ≡ lets → role_of second ≡ handlers → is_equals equals ≡ true → IsType (a_type condition) before → not (list_any (is_splitting words) before) ≡ true
+handler_from : (words : Splitting) (word second equals : Token) (condition : TypeTree) (handler : Tree) (before after : Fragments) → role_of word ≡ roles.Lets → role_of second ≡ roles.Handlers → is_equals equals ≡ true → IsType (a_type condition) before → not (list_any (is_splitting words) before) ≡ true
     → (state : State) → reads words (wants whole) after ≡ Some state → tree_of state ≡ Some handler → ItemRead words (handler_item word condition handler) (one word ∷ one second ∷ (before ++ one equals ∷ after))
 handler_from words word second equals condition handler before after role also is t plainly state e f =
     let h = reads_inner words after (wants whole) state e in
@@ -273,7 +281,7 @@ handler_from words word second equals condition handler before after role also i
     not_true true g = absurd cc
     not_true false g = refl
 
-pub handler_item_read : (words : Splitting) (word second equals : Token) (condition : TypeTree) (handler : Tree) (before after all : Fragments) → all ≡ one word ∷ one second ∷ (before ++ one equals ∷ after) → role_of word ≡ lets → role_of second ≡ handlers → is_equals equals ≡ true → IsType (a_type condition) before
+pub handler_item_read : (words : Splitting) (word second equals : Token) (condition : TypeTree) (handler : Tree) (before after all : Fragments) → all ≡ one word ∷ one second ∷ (before ++ one equals ∷ after) → role_of word ≡ roles.Lets → role_of second ≡ roles.Handlers → is_equals equals ≡ true → IsType (a_type condition) before
     → binds_plainly words (one second ∷ before) ≡ true → (state : State) → reads words (wants whole) after ≡ Some state → tree_of state ≡ Some handler → ItemRead words (handler_item word condition handler) all
 handler_item_read words word second equals condition handler before after all parts role also is t plainly state e f =
     subst (ItemRead words (handler_item word condition handler)) (sym parts) (handler_from words word second equals condition handler before after role also is t plainly state e f)
@@ -315,20 +323,20 @@ last_item_read words tree fragments h =
       leads_on = λ single separator after others last is e. item_leads words single tree fragments separator after [] others last h is e;
     }
 
-pub semicolon_separates : (token : Token) → role_of token ≡ semicolon → is_semicolon (one token) ≡ true
+pub semicolon_separates : (token : Token) → role_of token ≡ roles.Semicolon → is_semicolon (one token) ≡ true
 semicolon_separates token is = rw is refl
 
-semicolon_splits : (words : Splitting) (token : Token) → role_of token ≡ semicolon → splits words token ≡ false
+semicolon_splits : (words : Splitting) (token : Token) → role_of token ≡ roles.Semicolon → splits words token ≡ false
 semicolon_splits words token is = rw (is, splits_no_splitter words) refl
 
-semicolon_let : (token : Token) → role_of token ≡ semicolon → is_let (one token) ≡ false
+semicolon_let : (token : Token) → role_of token ≡ roles.Semicolon → is_let (one token) ≡ false
 semicolon_let token is = rw is refl
 
 pub nonempty_on : (before : Fragments) (separator : SeenFragment) (after : Fragments) → Nonempty (before ++ separator ∷ after)
 nonempty_on [] separator after = (separator, after, refl)
 nonempty_on (first ∷ before) separator after = (first, before ++ separator ∷ after, refl)
 
-pub more_items_read : (words : Splitting) (tree : ItemTree) (others : List ItemTree) (separator : Token) (before after all : Fragments) → all ≡ before ++ one separator ∷ after → role_of separator ≡ semicolon
+pub more_items_read : (words : Splitting) (tree : ItemTree) (others : List ItemTree) (separator : Token) (before after all : Fragments) → all ≡ before ++ one separator ∷ after → role_of separator ≡ roles.Semicolon
     → ItemRead words tree before → ItemsRead words others after → ItemsRead words (tree ∷ others) all
 more_items_read words tree others separator before after all parts is h k =
     subst (ItemsRead words (tree ∷ others)) (sym parts)
@@ -347,7 +355,7 @@ more_items_read words tree others separator before after all parts is h k =
 pub empty_body_read : (words : Splitting) → BodyRead words [] []
 empty_body_read words = record { read = refl; closed = refl; semicolon_alone = λ first rest e is. absurd cc }
 
-pub separator_body_read : (words : Splitting) (token : Token) → role_of token ≡ semicolon → BodyRead words [] (one token ∷ [])
+pub separator_body_read : (words : Splitting) (token : Token) → role_of token ≡ roles.Semicolon → BodyRead words [] (one token ∷ [])
 separator_body_read words token is =
     record {
       read = ap (λ (b : Bool). nonempty_body words (without_if b (item_of (one token)))) (semicolon_separates token is);
@@ -375,12 +383,12 @@ items_no_semicolon words trees fragments first rest h e is =
 pub items_body_read : (words : Splitting) (trees : List ItemTree) (fragments : Fragments) → ItemsRead words trees fragments → BodyRead words trees fragments
 items_body_read words trees fragments h = record { read = ap (nonempty_body words) h.ends ∙ nonempty_read words trees fragments h.some h.read; closed = h.closed; semicolon_alone = λ first rest e is. absurd (items_no_semicolon words trees fragments first rest h e is) }
 
-pub end_cut : (before : Fragments) (token : Token) → role_of token ≡ semicolon → without_end (items_of (before ++ one token ∷ [])) ≡ items_of before
+pub end_cut : (before : Fragments) (token : Token) → role_of token ≡ roles.Semicolon → without_end (items_of (before ++ one token ∷ [])) ≡ items_of before
 end_cut [] token is = rw is refl
 end_cut (x ∷ []) token is = ap (λ (items : List Item). item_of x ∷ items) (end_cut [] token is)
 end_cut (x ∷ y ∷ before) token is = ap (λ (items : List Item). item_of x ∷ items) (end_cut (y ∷ before) token is)
 
-pub ended_body_read : (words : Splitting) (trees : List ItemTree) (separator : Token) (before all : Fragments) → all ≡ before ++ one separator ∷ [] → role_of separator ≡ semicolon → ItemsRead words trees before → BodyRead words trees all
+pub ended_body_read : (words : Splitting) (trees : List ItemTree) (separator : Token) (before all : Fragments) → all ≡ before ++ one separator ∷ [] → role_of separator ≡ roles.Semicolon → ItemsRead words trees before → BodyRead words trees all
 ended_body_read words trees separator before all parts is h =
     subst (BodyRead words trees) (sym parts)
     (record {
@@ -400,10 +408,10 @@ pub record LocalRead (trees : List LocalMethod) (fragments : List SeenFragment) 
   pub ends : Open fragments
   pub some : Nonempty fragments
 
-local_facts : (word : Token) → role_of word ≡ locals → (front_of_item (one word) ≡ local_front word) × (item_role (role_of word) ≡ true) × (is_let (one word) ≡ false) × (is_remains (one word) ≡ false)
+local_facts : (word : Token) → role_of word ≡ roles.Locals → (front_of_item (one word) ≡ local_front word) × (item_role (role_of word) ≡ true) × (is_let (one word) ≡ false) × (is_remains (one word) ≡ false)
 local_facts word is = (rw is refl, rw is refl, rw is refl, rw is refl)
 
-pub local_item_read : (words : Splitting) (trees : List LocalMethod) (word : Token) (after : Fragments) → role_of word ≡ locals → LocalRead trees after → ItemRead words (local_item word (methods_of trees)) (one word ∷ after)
+pub local_item_read : (words : Splitting) (trees : List LocalMethod) (word : Token) (after : Fragments) → role_of word ≡ roles.Locals → LocalRead trees after → ItemRead words (local_item word (methods_of trees)) (one word ∷ after)
 local_item_read words trees word after is h =
     let (front, item, no_let, no_remains) = local_facts word is in
     record {
@@ -413,10 +421,10 @@ local_item_read words trees word after is h =
       some = (one word, after, refl, no_remains);
     }
 
-method_here : (bracket : Bracket) (word : Token) (found : Option NamedFound) (named_method : NamedFound) → bracket ≡ statement method_word → found ≡ Some named_method → method_in bracket word found ≡ Some (method_tree_of word named_method)
+method_here : (bracket : Bracket) (word : Token) (found : Option NamedFound) (named_method : NamedFound) → bracket ≡ brackets.Statement keywords.Method → found ≡ Some named_method → method_in bracket word found ≡ Some (method_tree_of word named_method)
 method_here bracket word found named_method is e = rw is (ap (option_map (method_tree_of word)) e)
 
-pub method_alone_read : (opener : Token) (inner : SeenFragments) (closer : Token) (named_method : NamedFound) → bracket_of opener closer ≡ statement method_word → (item_of (group opener inner closer)).found.named_method ≡ Some named_method
+pub method_alone_read : (opener : Token) (inner : SeenFragments) (closer : Token) (named_method : NamedFound) → bracket_of opener closer ≡ brackets.Statement keywords.Method → (item_of (group opener inner closer)).found.named_method ≡ Some named_method
     → method_alone (items_of (group opener inner closer ∷ [])) ≡ Some (method_tree_of opener named_method)
 method_alone_read opener inner closer named_method is e = method_here (bracket_of opener closer) opener ((item_of (group opener inner closer)).found.named_method) named_method is e
 
@@ -429,10 +437,10 @@ last_method_read opener inner closer tree e =
       some = (group opener inner closer, [], refl);
     }
 
-comma_facts : (token : Token) → role_of token ≡ comma → (is_comma_fragment (one token) ≡ true) × (item_role (role_of token) ≡ true) × (is_let (one token) ≡ false)
+comma_facts : (token : Token) → role_of token ≡ roles.Comma → (is_comma_fragment (one token) ≡ true) × (item_role (role_of token) ≡ true) × (is_let (one token) ≡ false)
 comma_facts token is = (rw is refl, rw is refl, rw is refl)
 
-pub more_methods_read : (opener : Token) (inner : SeenFragments) (closer : Token) (tree : LocalMethod) (others : List LocalMethod) (separator : Token) (after : Fragments) → role_of separator ≡ comma → method_alone (items_of (group opener inner closer ∷ [])) ≡ Some tree → LocalRead others after
+pub more_methods_read : (opener : Token) (inner : SeenFragments) (closer : Token) (tree : LocalMethod) (others : List LocalMethod) (separator : Token) (after : Fragments) → role_of separator ≡ roles.Comma → method_alone (items_of (group opener inner closer ∷ [])) ≡ Some tree → LocalRead others after
     → LocalRead (tree ∷ others) (group opener inner closer ∷ one separator ∷ after)
 more_methods_read opener inner closer tree others separator after is e k =
     let (commas, item, no_let) = comma_facts separator is in

@@ -2,10 +2,17 @@
 use Rattle.std.proofs.Common.{◌≡◌, Bool, true, false, List, [], ◌∷◌, ◌++◌, Option, Some, option_map, option_and_then, refl, sym, ap, subst, ◌∙◌}
 use Rattle.dy_tree.specs.declared.token.Token.{Token}
 use Rattle.dy_tree.specs.Fragments.{SeenFragment, one, group, SeenFragments, row}
+use Rattle.dy_tree.specs.declared.roles.Role.{Role}
+use Rattle.dy_tree.specs.declared.roles.Role.TheVariants as roles
+use Rattle.dy_tree.specs.declared.brackets.Keyword.TheVariants as keywords
+use Rattle.dy_tree.specs.declared.brackets.Bracket.{Bracket}
+use Rattle.dy_tree.specs.declared.brackets.Bracket.TheVariants as brackets
+use Rattle.dy_tree.specs.declared.splitters.Splitting.{Splitting}
+use Rattle.dy_tree.specs.declared.splitters.Splitting.TheVariants as splittings
 use Rattle.dy_rules.specs.Trees.{Tree, ItemTree, expression_item, LocalMethod}
 use Rattle.dy_rules.specs.Types.{is_equals, TypeTree, a_type, IsType, binds_plainly, TargetTree, IsTarget}
 use Rattle.dy_rules.specs.TypeReading.{type_items, target_items}
-use Rattle.dy_rules.specs.Roles.{Role, lets, handlers, semicolon, role_of, Splitting, nothing, Bracket, statement, bracket_of, locals, method_word}
+use Rattle.dy_rules.specs.Roles.{role_of, bracket_of}
 use Rattle.dy_rules.specs.Productions.{expression, an_item, some_items, a_body, Derives, by_let, by_handler, by_expression, last_item, more_items, empty_body, separator_body, items_body, ended_body, local_methods, by_local, last_method, more_methods}
 use Rattle.dy_rules.specs.Cutting.{Sides, first_cut, Item, is_semicolon, is_semicolon_role, cut, each, without_end, without_if, fragments_in, NamedFound, Found}
 use Rattle.dy_rules.specs.Reading.{expression_items}
@@ -24,11 +31,11 @@ expression_item_sound words list tree h e =
     let (found, is, same) = map_some expression_item (expression_items words list) tree e in
     subst (λ (t : ItemTree). Derives words (an_item t) (fragments_in list)) (sym same) (by_expression words found (fragments_in list) (expression_sound words list found h is))
 
-handler_is : (role : Role) → is_handler_role role ≡ true → role ≡ handlers
-handler_is handlers e = refl
+handler_is : (role : Role) → is_handler_role role ≡ true → role ≡ roles.Handlers
+handler_is roles.Handlers e = refl
 handler_is role e = absurd cc
 
-handler_token : (fragment : SeenFragment) → is_handler fragment ≡ true → (token : Token) × (fragment ≡ one token) × (role_of token ≡ handlers)
+handler_token : (fragment : SeenFragment) → is_handler fragment ≡ true → (token : Token) × (fragment ≡ one token) × (role_of token ≡ roles.Handlers)
 handler_token (one token) e = (token, refl, handler_is (role_of token) e)
 handler_token (group opener inner closer) e = absurd cc
 
@@ -37,16 +44,16 @@ equals_token (one token) e = (token, refl, e)
 equals_token (group opener inner closer) e = absurd cc
 
 handler_parts : (words : Splitting) (word second equals : Token) (condition : TypeTree) (handler : Tree) (tree : ItemTree) (all first separator : SeenFragment) (rest before after : Fragments) → tree ≡ handler_of word condition handler → all ≡ one word → first ≡ one second → separator ≡ one equals
-    → rest ≡ (first ∷ before) ++ separator ∷ after → role_of word ≡ lets → role_of second ≡ handlers → is_equals equals ≡ true → IsType (a_type condition) before → binds_plainly words (first ∷ before) ≡ true → Derives words (expression handler) after → Derives words (an_item tree) (all ∷ rest)
+    → rest ≡ (first ∷ before) ++ separator ∷ after → role_of word ≡ roles.Lets → role_of second ≡ roles.Handlers → is_equals equals ≡ true → IsType (a_type condition) before → binds_plainly words (first ∷ before) ≡ true → Derives words (expression handler) after → Derives words (an_item tree) (all ∷ rest)
 handler_parts words word second equals condition handler tree all first separator rest before after same one_is second_is equals_is parts role also is t plainly h =
     rw (same, one_is, parts, second_is, equals_is) (by_handler words word second equals condition handler before after (one word ∷ one second ∷ (before ++ one equals ∷ after)) refl role also is t (subst (λ (f : SeenFragment). binds_plainly words (f ∷ before) ≡ true) second_is plainly) h)
 
 let_parts : (words : Splitting) (word equals : Token) (target : TargetTree) (assigned : Tree) (tree : ItemTree) (all separator : SeenFragment) (rest before after : Fragments) → tree ≡ let_of word target assigned → all ≡ one word → separator ≡ one equals → rest ≡ before ++ separator ∷ after
-    → role_of word ≡ lets → is_equals equals ≡ true → IsTarget target before → binds_plainly words before ≡ true → Derives words (expression assigned) after → Derives words (an_item tree) (all ∷ rest)
+    → role_of word ≡ roles.Lets → is_equals equals ≡ true → IsTarget target before → binds_plainly words before ≡ true → Derives words (expression assigned) after → Derives words (an_item tree) (all ∷ rest)
 let_parts words word equals target assigned tree all separator rest before after same one_is equals_is parts role is t plainly h =
     rw (same, one_is, parts, equals_is) (by_let words word equals target assigned before after (one word ∷ (before ++ one equals ∷ after)) refl role is t plainly h)
 
-bound_sound_at : (is : Bool) (words : Splitting) (word : Token) (fragment : SeenFragment) (front : Item) (rest after : List Item) (separator : SeenFragment) (all : Fragments) (tree : ItemTree) → fragment ≡ one word → role_of word ≡ lets → is_handler front.fragment ≡ is → is_equals_at separator ≡ true
+bound_sound_at : (is : Bool) (words : Splitting) (word : Token) (fragment : SeenFragment) (front : Item) (rest after : List Item) (separator : SeenFragment) (all : Fragments) (tree : ItemTree) → fragment ≡ one word → role_of word ≡ roles.Lets → is_handler front.fragment ≡ is → is_equals_at separator ≡ true
     → all ≡ fragments_in (front ∷ rest) ++ separator ∷ fragments_in after → ItemsSound (front ∷ rest) → ItemsSound after → binds_plainly words (fragments_in (front ∷ rest)) ≡ true → bound_at is words word front rest after ≡ Some tree → Derives words (an_item tree) (fragment ∷ all)
 bound_sound_at true words word fragment front rest after separator all tree one_is role handler equals parts h k plainly e =
     let (condition, read, e1) = then_some (handler_with words word after) (type_items rest) tree e in
@@ -60,28 +67,28 @@ bound_sound_at false words word fragment front rest after separator all tree one
     let (sign, sign_is, is) = equals_token separator equals in
     let_parts words word sign target value tree fragment separator all (fragments_in (front ∷ rest)) (fragments_in after) same one_is sign_is parts role is (target_sound (front ∷ rest) target h read) plainly (expression_sound words after value k found)
 
-bound_from_sound : (words : Splitting) (word : Token) (fragment : SeenFragment) (before after : List Item) (separator : SeenFragment) (all : Fragments) (tree : ItemTree) → fragment ≡ one word → role_of word ≡ lets → is_equals_at separator ≡ true
+bound_from_sound : (words : Splitting) (word : Token) (fragment : SeenFragment) (before after : List Item) (separator : SeenFragment) (all : Fragments) (tree : ItemTree) → fragment ≡ one word → role_of word ≡ roles.Lets → is_equals_at separator ≡ true
     → all ≡ fragments_in before ++ separator ∷ fragments_in after → ItemsSound before → ItemsSound after → binds_plainly words (fragments_in before) ≡ true → bound_from words word before after ≡ Some tree → Derives words (an_item tree) (fragment ∷ all)
 bound_from_sound words word fragment [] after separator all tree one_is role equals parts h k plainly e = absurd cc
 bound_from_sound words word fragment (front ∷ rest) after separator all tree one_is role equals parts h k plainly e = bound_sound_at (is_handler front.fragment) words word fragment front rest after separator all tree one_is role refl equals parts h k plainly e
 
-let_if_sound : (is : Bool) (words : Splitting) (word : Token) (fragment : SeenFragment) (list : List Item) (sides : Sides) (tree : ItemTree) → binds_plainly words (fragments_in sides.before) ≡ is → fragment ≡ one word → role_of word ≡ lets → AreSides is_equals_at (fragments_in list) sides
+let_if_sound : (is : Bool) (words : Splitting) (word : Token) (fragment : SeenFragment) (list : List Item) (sides : Sides) (tree : ItemTree) → binds_plainly words (fragments_in sides.before) ≡ is → fragment ≡ one word → role_of word ≡ roles.Lets → AreSides is_equals_at (fragments_in list) sides
     → let_if is words word sides ≡ Some tree → Derives words (an_item tree) (fragment ∷ fragments_in list)
 let_if_sound true words word fragment list sides tree plainly one_is role s e = bound_from_sound words word fragment sides.before sides.after s.separator (fragments_in list) tree one_is role s.is s.parts s.before_sound s.after_sound plainly e
 let_if_sound false words word fragment list sides tree plainly one_is role s e = absurd cc
 
-let_sound : (words : Splitting) (word : Token) (fragment : SeenFragment) (list : List Item) (tree : ItemTree) → fragment ≡ one word → role_of word ≡ lets → ItemsSound list → option_and_then (let_sides words word) (first_cut is_equals_at list) ≡ Some tree
+let_sound : (words : Splitting) (word : Token) (fragment : SeenFragment) (list : List Item) (tree : ItemTree) → fragment ≡ one word → role_of word ≡ roles.Lets → ItemsSound list → option_and_then (let_sides words word) (first_cut is_equals_at list) ≡ Some tree
     → Derives words (an_item tree) (fragment ∷ fragments_in list)
 let_sound words word fragment list tree one_is role h e =
     let (sides, read, e1) = then_some (let_sides words word) (first_cut is_equals_at list) tree e in
     let_if_sound (binds_plainly words (fragments_in sides.before)) words word fragment list sides tree refl one_is role (first_cut_sound is_equals_at list sides h read) e1
 
-front_let : (fragment : SeenFragment) (word : Token) → front_of_item fragment ≡ let_front word → (fragment ≡ one word) × (role_of word ≡ lets)
+front_let : (fragment : SeenFragment) (word : Token) → front_of_item fragment ≡ let_front word → (fragment ≡ one word) × (role_of word ≡ roles.Lets)
 front_let (group opener inner closer) word e = absurd cc
 front_let (one token) word e = go (role_of token) refl e
   where
-    go : (role : Role) → role_of token ≡ role → front_by role token ≡ let_front word → (one token ≡ one word) × (role_of word ≡ lets)
-    go lets is f = let same : token ≡ word = cc in (ap (λ (t : Token). one t) same, ap role_of (sym same) ∙ is)
+    go : (role : Role) → role_of token ≡ role → front_by role token ≡ let_front word → (one token ≡ one word) × (role_of word ≡ roles.Lets)
+    go roles.Lets is f = let same : token ≡ word = cc in (ap (λ (t : Token). one t) same, ap role_of (sym same) ∙ is)
     go role is f = absurd cc
 
 -- one local method
@@ -90,14 +97,14 @@ record MethodIs (tree : LocalMethod) (fragments : List SeenFragment) : Type 0 wh
   pub inner : SeenFragments
   pub closer : Token
   pub method : NamedFound
-  pub is : bracket_of opener closer ≡ statement method_word
+  pub is : bracket_of opener closer ≡ brackets.Statement keywords.Method
   pub parts : fragments ≡ group opener inner closer ∷ []
   pub same : tree ≡ method_tree_of opener method
   pub inside : NamedIs method (row inner)
 
 method_in_sound : (bracket : Bracket) (opener : Token) (inner : SeenFragments) (closer : Token) (found : Option NamedFound) (tree : LocalMethod) → bracket_of opener closer ≡ bracket → ((method : NamedFound) → found ≡ Some method → NamedIs method (row inner)) → method_in bracket opener found ≡ Some tree
     → MethodIs tree (group opener inner closer ∷ [])
-method_in_sound (statement method_word) opener inner closer found tree is h e =
+method_in_sound (brackets.Statement keywords.Method) opener inner closer found tree is h e =
     let (method, read, same) = map_some (method_tree_of opener) found tree e in
     record { opener = opener; inner = inner; closer = closer; method = method; is = is; parts = refl; same = same; inside = h method read }
 method_in_sound bracket opener inner closer found tree is h e = absurd cc
@@ -111,32 +118,32 @@ method_alone_sound [] tree h e = absurd cc
 method_alone_sound (first ∷ []) tree h e = method_at_sound first.fragment first.found tree h.0.group_is e
 method_alone_sound (first ∷ second ∷ rest) tree h e = absurd cc
 
-last_method_of : (tree : LocalMethod) (fragments : Fragments) → MethodIs tree fragments → Derives nothing (local_methods (tree ∷ [])) fragments
+last_method_of : (tree : LocalMethod) (fragments : Fragments) → MethodIs tree fragments → Derives splittings.Nothing (local_methods (tree ∷ [])) fragments
 last_method_of tree fragments m =
     let (after, inner_is, role, h) = m.inside in
-    subst (λ (t : LocalMethod). Derives nothing (local_methods (t ∷ [])) fragments) (sym m.same)
-    (subst (Derives nothing (local_methods (method_tree_of m.opener m.method ∷ []))) (sym m.parts) (last_method m.method.method.found m.method.method.results m.method.method.trees m.opener m.method.token m.inner m.closer after m.is inner_is role h))
+    subst (λ (t : LocalMethod). Derives splittings.Nothing (local_methods (t ∷ [])) fragments) (sym m.same)
+    (subst (Derives splittings.Nothing (local_methods (method_tree_of m.opener m.method ∷ []))) (sym m.parts) (last_method m.method.method.found m.method.method.results m.method.method.trees m.opener m.method.token m.inner m.closer after m.is inner_is role h))
 
-more_methods_of : (tree : LocalMethod) (others : List LocalMethod) (separator : SeenFragment) (before after : Fragments) → is_comma_fragment separator ≡ true → MethodIs tree before → Derives nothing (local_methods others) after → Derives nothing (local_methods (tree ∷ others)) (before ++ separator ∷ after)
+more_methods_of : (tree : LocalMethod) (others : List LocalMethod) (separator : SeenFragment) (before after : Fragments) → is_comma_fragment separator ≡ true → MethodIs tree before → Derives splittings.Nothing (local_methods others) after → Derives splittings.Nothing (local_methods (tree ∷ others)) (before ++ separator ∷ after)
 more_methods_of tree others (group left within right) before after e m k = absurd cc
 more_methods_of tree others (one separator) before behind e m k =
     let (after, inner_is, role, h) = m.inside in
-    subst (λ (t : LocalMethod). Derives nothing (local_methods (t ∷ others)) (before ++ one separator ∷ behind)) (sym m.same)
-    (subst (λ (fs : Fragments). Derives nothing (local_methods (method_tree_of m.opener m.method ∷ others)) (fs ++ one separator ∷ behind)) (sym m.parts)
+    subst (λ (t : LocalMethod). Derives splittings.Nothing (local_methods (t ∷ others)) (before ++ one separator ∷ behind)) (sym m.same)
+    (subst (λ (fs : Fragments). Derives splittings.Nothing (local_methods (method_tree_of m.opener m.method ∷ others)) (fs ++ one separator ∷ behind)) (sym m.parts)
     (more_methods m.method.method.found m.method.method.results m.method.method.trees others m.opener m.method.token m.inner m.closer separator after behind m.is inner_is role (comma_is (role_of separator) e) h k))
 
-methods_row : Row is_comma_fragment method_alone MethodIs (λ trees fragments. Derives nothing (local_methods trees) fragments)
+methods_row : Row is_comma_fragment method_alone MethodIs (λ trees fragments. Derives splittings.Nothing (local_methods trees) fragments)
 methods_row = record { last = last_method_of; more = more_methods_of; reads_one = λ items tree h e. method_alone_sound items tree h e }
 
-front_local : (fragment : SeenFragment) (word : Token) → front_of_item fragment ≡ local_front word → (fragment ≡ one word) × (role_of word ≡ locals)
+front_local : (fragment : SeenFragment) (word : Token) → front_of_item fragment ≡ local_front word → (fragment ≡ one word) × (role_of word ≡ roles.Locals)
 front_local (group opener inner closer) word e = absurd cc
 front_local (one token) word e = go (role_of token) refl e
   where
-    go : (role : Role) → role_of token ≡ role → front_by role token ≡ local_front word → (one token ≡ one word) × (role_of word ≡ locals)
-    go locals is f = let same : token ≡ word = cc in (ap (λ (t : Token). one t) same, ap role_of (sym same) ∙ is)
+    go : (role : Role) → role_of token ≡ role → front_by role token ≡ local_front word → (one token ≡ one word) × (role_of word ≡ roles.Locals)
+    go roles.Locals is f = let same : token ≡ word = cc in (ap (λ (t : Token). one t) same, ap role_of (sym same) ∙ is)
     go role is f = absurd cc
 
-local_parts : (words : Splitting) (word : Token) (fragment : SeenFragment) (trees : List LocalMethod) (tree : ItemTree) (after : Fragments) → tree ≡ local_of word trees → fragment ≡ one word → role_of word ≡ locals → Derives nothing (local_methods trees) after → Derives words (an_item tree) (fragment ∷ after)
+local_parts : (words : Splitting) (word : Token) (fragment : SeenFragment) (trees : List LocalMethod) (tree : ItemTree) (after : Fragments) → tree ≡ local_of word trees → fragment ≡ one word → role_of word ≡ roles.Locals → Derives splittings.Nothing (local_methods trees) after → Derives words (an_item tree) (fragment ∷ after)
 local_parts words word fragment trees tree after same one_is role h = rw (same, one_is) (by_local words trees word after role h)
 
 local_sound : (words : Splitting) (word : Token) (first : Item) (rest : List Item) (tree : ItemTree) → front_of_item first.fragment ≡ local_front word → ItemsSound rest → option_map (local_of word) (each method_alone (cut is_comma_fragment false rest)) ≡ Some tree → Derives words (an_item tree) (first.fragment ∷ fragments_in rest)
@@ -154,8 +161,8 @@ pub item_sound : (words : Splitting) (list : List Item) (tree : ItemTree) → It
 item_sound words [] tree h e = absurd cc
 item_sound words (first ∷ rest) tree h e = item_by_sound (front_of_item first.fragment) words first rest tree refl h e
 
-pub semicolon_is : (role : Role) → is_semicolon_role role ≡ true → role ≡ semicolon
-semicolon_is semicolon e = refl
+pub semicolon_is : (role : Role) → is_semicolon_role role ≡ true → role ≡ roles.Semicolon
+semicolon_is roles.Semicolon e = refl
 semicolon_is role e = absurd cc
 
 pub more_items_of : (words : Splitting) (tree : ItemTree) (others : List ItemTree) (separator : SeenFragment) (before after : Fragments) → is_semicolon separator ≡ true
@@ -174,9 +181,9 @@ items_row words =
 -- what was left out at the end
 pub data End : List Item → List Item → Type 0 where
   nothing_left_out : (list : List Item) → End list list
-  semicolon_left_out : (list rest : List Item) (token : Token) → role_of token ≡ semicolon → fragments_in list ≡ fragments_in rest ++ one token ∷ [] → End list rest
+  semicolon_left_out : (list rest : List Item) (token : Token) → role_of token ≡ roles.Semicolon → fragments_in list ≡ fragments_in rest ++ one token ∷ [] → End list rest
 
-pub semicolon_token : (fragment : SeenFragment) → is_semicolon fragment ≡ true → (token : Token) × (fragment ≡ one token) × (role_of token ≡ semicolon)
+pub semicolon_token : (fragment : SeenFragment) → is_semicolon fragment ≡ true → (token : Token) × (fragment ≡ one token) × (role_of token ≡ roles.Semicolon)
 semicolon_token (one token) e = (token, refl, semicolon_is (role_of token) e)
 semicolon_token (group opener inner closer) e = absurd cc
 

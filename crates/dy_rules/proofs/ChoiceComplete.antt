@@ -2,8 +2,11 @@
 use Rattle.std.proofs.Common.{◌≡◌, ◌⊎◌, inl, inr, Bool, true, false, List, [], ◌∷◌, ◌++◌, Option, Some, None, option_map, option_and_then, refl, sym, ap, subst, ◌∙◌, append_assoc}
 use Rattle.dy_tree.specs.declared.token.Token.{Token}
 use Rattle.dy_tree.specs.Fragments.{SeenFragment, one}
+use Rattle.dy_tree.specs.declared.roles.Role.TheVariants as roles
+use Rattle.dy_tree.specs.declared.splitters.Splitting.TheVariants as splittings
+use Rattle.dy_tree.specs.declared.splitters.Splitter.TheVariants as splitter_words
 use Rattle.dy_rules.specs.Trees.{Tree, ItemTree, body_of, Otherwise, no_otherwise, otherwise, Arm, arm, tests_of}
-use Rattle.dy_rules.specs.Roles.{comma, semicolon, arrow, remains, role_of, nothing, tests, by_word, splitter_of, splits}
+use Rattle.dy_rules.specs.Roles.{role_of, splitter_of, splits}
 use Rattle.dy_rules.specs.Arguments.{is_comma_fragment}
 use Rattle.dy_rules.specs.Productions.{suits}
 use Rattle.dy_rules.specs.Cutting.{Item, Pieces, is_semicolon, is_let, is_arrow, is_splitter, cut, cut_if, without_end}
@@ -23,58 +26,58 @@ Fragments = List SeenFragment
 
 pub record TestsRead (trees : List Tree) (fragments : List SeenFragment) : Type 0 where
   pub read : tests_items (items_of fragments) ≡ Some trees
-  pub closed : (separates : SeenFragment → Bool) → Separating nothing separates → Closed separates false fragments
+  pub closed : (separates : SeenFragment → Bool) → Separating splittings.Nothing separates → Closed separates false fragments
   pub some : Begins fragments
 
-pub one_test_read : (tree : Tree) (fragments : Fragments) (state : State) → reads nothing (wants whole) fragments ≡ Some state → tree_of state ≡ Some tree → TestsRead (tree ∷ []) fragments
+pub one_test_read : (tree : Tree) (fragments : Fragments) (state : State) → reads splittings.Nothing (wants whole) fragments ≡ Some state → tree_of state ≡ Some tree → TestsRead (tree ∷ []) fragments
 one_test_read tree fragments state e f =
-    let h = reads_inner nothing fragments (wants whole) state e in
+    let h = reads_inner splittings.Nothing fragments (wants whole) state e in
     record {
-      read = row_last is_comma_fragment (expression_items nothing) fragments tree (inner_closed_by nothing is_comma_fragment (inner_no_comma nothing) fragments h) (expression_read nothing tree fragments state e f);
-      closed = λ separates s. inner_closed nothing separates s fragments h;
-      some = inner_begins nothing fragments h (read_some nothing tree fragments state e f);
+      read = row_last is_comma_fragment (expression_items splittings.Nothing) fragments tree (inner_closed_by splittings.Nothing is_comma_fragment (inner_no_comma splittings.Nothing) fragments h) (expression_read splittings.Nothing tree fragments state e f);
+      closed = λ separates s. inner_closed splittings.Nothing separates s fragments h;
+      some = inner_begins splittings.Nothing fragments h (read_some splittings.Nothing tree fragments state e f);
     }
 
-comma_item : (token : Token) → role_of token ≡ comma → (item_role (role_of token) ≡ true) × (is_let (one token) ≡ false)
+comma_item : (token : Token) → role_of token ≡ roles.Comma → (item_role (role_of token) ≡ true) × (is_let (one token) ≡ false)
 comma_item token is = (rw is refl, rw is refl)
 
 begins_on : (before : Fragments) (separator : SeenFragment) (after : Fragments) → Begins before → Begins (before ++ separator ∷ after)
 begins_on [] separator after (first, rest, e, plainly) = absurd cc
 begins_on (x ∷ before) separator after (first, rest, e, plainly) = let same : x ≡ first = cc in (x, before ++ separator ∷ after, refl, ap is_remains same ∙ plainly)
 
-pub more_tests_read : (tree : Tree) (others : List Tree) (separator : Token) (before after all : Fragments) → all ≡ before ++ one separator ∷ after → role_of separator ≡ comma → (state : State) → reads nothing (wants whole) before ≡ Some state → tree_of state ≡ Some tree → TestsRead others after
+pub more_tests_read : (tree : Tree) (others : List Tree) (separator : Token) (before after all : Fragments) → all ≡ before ++ one separator ∷ after → role_of separator ≡ roles.Comma → (state : State) → reads splittings.Nothing (wants whole) before ≡ Some state → tree_of state ≡ Some tree → TestsRead others after
     → TestsRead (tree ∷ others) all
 more_tests_read tree others separator before after all parts is state e f k =
-    let h = reads_inner nothing before (wants whole) state e in
+    let h = reads_inner splittings.Nothing before (wants whole) state e in
     let (item, no_let) = comma_item separator is in
     subst (TestsRead (tree ∷ others)) (sym parts)
     (record {
-      read = row_more is_comma_fragment (expression_items nothing) before (one separator) after tree others (inner_closed_by nothing is_comma_fragment (inner_no_comma nothing) before h) (comma_separates separator is) (expression_read nothing tree before state e f) k.read;
-      closed = λ separates s. closed_on separates false before (one separator) after (inner_closed nothing separates s before h) (s.others separator item) no_let (k.closed separates s);
-      some = begins_on before (one separator) after (inner_begins nothing before h (read_some nothing tree before state e f));
+      read = row_more is_comma_fragment (expression_items splittings.Nothing) before (one separator) after tree others (inner_closed_by splittings.Nothing is_comma_fragment (inner_no_comma splittings.Nothing) before h) (comma_separates separator is) (expression_read splittings.Nothing tree before state e f) k.read;
+      closed = λ separates s. closed_on separates false before (one separator) after (inner_closed splittings.Nothing separates s before h) (s.others separator item) no_let (k.closed separates s);
+      some = begins_on before (one separator) after (inner_begins splittings.Nothing before h (read_some splittings.Nothing tree before state e f));
     })
 
 abbrev pub OpenRead : List ItemTree → Fragments → Type 0
-OpenRead trees fragments = ((trees ≡ []) × (fragments ≡ [])) ⊎ ItemsRead nothing trees fragments
+OpenRead trees fragments = ((trees ≡ []) × (fragments ≡ [])) ⊎ ItemsRead splittings.Nothing trees fragments
 
 -- the body of an arm, beside its arrow and behind it
 pub record OpenedAt (single : Bool) (trees : List ItemTree) (others : List Arm) (last : Otherwise) (pieces : Pieces) : Type 0 where
   pub lead : List ItemTree
-  pub behind : choices_behind nothing single pieces.others ≡ Some (choices_of lead others last)
-  pub inside : body_with nothing pieces.first lead ≡ Some trees
+  pub behind : choices_behind splittings.Nothing single pieces.others ≡ Some (choices_of lead others last)
+  pub inside : body_with splittings.Nothing pieces.first lead ≡ Some trees
   pub plain_first : cut is_arrow false pieces.first ≡ ended pieces.first
 
-lead_body : (front : Fragments) (tree : ItemTree) (lead trees : List ItemTree) → Begins front → item_items nothing (items_of front) ≡ Some tree → trees ≡ tree ∷ lead → body_with nothing (items_of front) lead ≡ Some trees
+lead_body : (front : Fragments) (tree : ItemTree) (lead trees : List ItemTree) → Begins front → item_items splittings.Nothing (items_of front) ≡ Some tree → trees ≡ tree ∷ lead → body_with splittings.Nothing (items_of front) lead ≡ Some trees
 lead_body [] tree lead trees (first, rest, f, plainly) e same = absurd cc
 lead_body (x ∷ front) tree lead trees begins e same = ap (option_map (lead_before lead)) e ∙ ap (λ (list : List ItemTree). Some list) (sym same)
 
-leads_opened : (single : Bool) (trees : List ItemTree) (others : List Arm) (last : Otherwise) (pieces : Pieces) → Leads nothing single trees others last pieces → OpenedAt single trees others last pieces
+leads_opened : (single : Bool) (trees : List ItemTree) (others : List Arm) (last : Otherwise) (pieces : Pieces) → Leads splittings.Nothing single trees others last pieces → OpenedAt single trees others last pieces
 leads_opened single trees others last pieces h =
     record {
       lead = h.rest;
       behind = h.behind;
-      inside = ap (λ (items : List Item). body_with nothing items h.rest) h.first_is ∙ lead_body h.front h.tree h.rest trees h.item_is.some h.item_is.read h.trees_are;
-      plain_first = ap (cut is_arrow false) h.first_is ∙ cut_end is_arrow false h.front (h.item_is.closed is_arrow (arrows nothing)) ∙ ap ended (sym h.first_is);
+      inside = ap (λ (items : List Item). body_with splittings.Nothing items h.rest) h.first_is ∙ lead_body h.front h.tree h.rest trees h.item_is.some h.item_is.read h.trees_are;
+      plain_first = ap (cut is_arrow false) h.first_is ∙ cut_end is_arrow false h.front (h.item_is.closed is_arrow (arrows splittings.Nothing)) ∙ ap ended (sym h.first_is);
     }
 
 opened_end : (single : Bool) (trees : List ItemTree) (fragments : Fragments) → OpenRead trees fragments → OpenedAt single trees [] no_otherwise (cut is_semicolon false (items_of fragments))
@@ -83,21 +86,21 @@ opened_end single trees fragments (inl (none, empty)) =
 opened_end single trees fragments (inr h) = leads_opened single trees [] no_otherwise (cut is_semicolon false (items_of fragments)) (h.leads single)
 
 opened_on : (single : Bool) (trees : List ItemTree) (fragments : Fragments) (separator : SeenFragment) (after : Fragments) (others : List Arm) (last : Otherwise) → OpenRead trees fragments → is_semicolon separator ≡ true
-    → choices_pieces nothing single (cut is_semicolon false (items_of after)) ≡ Some (choices_of [] others last) → OpenedAt single trees others last (cut is_semicolon false (items_of (fragments ++ separator ∷ after)))
+    → choices_pieces splittings.Nothing single (cut is_semicolon false (items_of after)) ≡ Some (choices_of [] others last) → OpenedAt single trees others last (cut is_semicolon false (items_of (fragments ++ separator ∷ after)))
 opened_on single trees fragments separator after others last (inl (none, empty)) is e =
     subst (λ (fs : Fragments). OpenedAt single trees others last (cut is_semicolon false (items_of (fs ++ separator ∷ after)))) (sym empty)
     (subst (OpenedAt single trees others last) (sym (joined_on is_semicolon false [] separator after refl is)) (record { lead = []; behind = e; inside = ap (λ (list : List ItemTree). Some list) (sym none); plain_first = refl }))
 opened_on single trees fragments separator after others last (inr h) is e = leads_opened single trees others last (cut is_semicolon false (items_of (fragments ++ separator ∷ after))) (h.leads_on single separator after others last is e)
 
 pub record ChoicesRead (single : Bool) (trees : List Arm) (last : Otherwise) (fragments : List SeenFragment) : Type 0 where
-  pub read : choices_pieces nothing single (cut is_semicolon false (items_of fragments)) ≡ Some (choices_of [] trees last)
+  pub read : choices_pieces splittings.Nothing single (cut is_semicolon false (items_of fragments)) ≡ Some (choices_of [] trees last)
   pub ends : Open fragments
   pub some : Nonempty fragments
 
-arrow_facts : (sign : Token) → role_of sign ≡ arrow → (is_arrow (one sign) ≡ true) × (is_semicolon (one sign) ≡ false) × (is_let (one sign) ≡ false)
+arrow_facts : (sign : Token) → role_of sign ≡ roles.Arrow → (is_arrow (one sign) ≡ true) × (is_semicolon (one sign) ≡ false) × (is_let (one sign) ≡ false)
 arrow_facts sign is = (rw is refl, rw is refl, rw is refl)
 
-arm_kind : (before : Fragments) (sign : Token) (after : List Item) → Begins before → Closed is_arrow false before → role_of sign ≡ arrow → cut is_arrow false after ≡ ended after → kind_of (items_of before ++ item_of (one sign) ∷ after) ≡ arm_piece (items_of before) after
+arm_kind : (before : Fragments) (sign : Token) (after : List Item) → Begins before → Closed is_arrow false before → role_of sign ≡ roles.Arrow → cut is_arrow false after ≡ ended after → kind_of (items_of before ++ item_of (one sign) ∷ after) ≡ arm_piece (items_of before) after
 arm_kind [] sign after (first, rest, e, plainly) h is ends = absurd cc
 arm_kind (x ∷ before) sign after (first, rest, e, plainly) h is ends =
     let same : x ≡ first = cc in
@@ -106,7 +109,7 @@ arm_kind (x ∷ before) sign after (first, rest, e, plainly) h is ends =
     ∙ ap (kind_at false (items_of before ++ item_of (one sign) ∷ after)) (cut_on is_arrow false (x ∷ before) (one sign) after h arrow_is)
     ∙ ap (λ (pieces : Pieces). kind_at false (items_of before ++ item_of (one sign) ∷ after) (joined (items_of (x ∷ before)) (one sign) pieces)) ends
 
-arm_pieces : (before : Fragments) (sign : Token) (after : Fragments) → Closed is_semicolon false before → role_of sign ≡ arrow
+arm_pieces : (before : Fragments) (sign : Token) (after : Fragments) → Closed is_semicolon false before → role_of sign ≡ roles.Arrow
     → cut is_semicolon false (items_of (before ++ one sign ∷ after)) ≡ record { first = items_of before ++ item_of (one sign) ∷ (cut is_semicolon false (items_of after)).first; others = (cut is_semicolon false (items_of after)).others }
 arm_pieces before sign after h is =
     let (arrow_is, no_semicolon, no_let) = arrow_facts sign is in
@@ -116,32 +119,32 @@ arm_pieces before sign after h is =
     ∙ ap (λ (items : List Item). record { first = items; others = (cut is_semicolon false (items_of after)).others })
     (ap (λ (items : List Item). items ++ (cut is_semicolon false (items_of after)).first) (items_append before (one sign ∷ [])) ∙ append_assoc (items_of before) (item_of (one sign) ∷ []) (cut is_semicolon false (items_of after)).first)
 
-arm_choice : (single : Bool) (trees : List Tree) (items : List ItemTree) (others : List Arm) (last : Otherwise) (before : Fragments) (sign : Token) (pieces : Pieces) → TestsRead trees before → role_of sign ≡ arrow → suits single trees ≡ true → OpenedAt single items others last pieces
-    → choices_pieces nothing single (record { first = items_of before ++ item_of (one sign) ∷ pieces.first; others = pieces.others }) ≡ Some (choices_of [] (arm (tests_of trees) (body_of items) ∷ others) last)
+arm_choice : (single : Bool) (trees : List Tree) (items : List ItemTree) (others : List Arm) (last : Otherwise) (before : Fragments) (sign : Token) (pieces : Pieces) → TestsRead trees before → role_of sign ≡ roles.Arrow → suits single trees ≡ true → OpenedAt single items others last pieces
+    → choices_pieces splittings.Nothing single (record { first = items_of before ++ item_of (one sign) ∷ pieces.first; others = pieces.others }) ≡ Some (choices_of [] (arm (tests_of trees) (body_of items) ∷ others) last)
 arm_choice single trees items others last before sign pieces t is fit h =
     let all : List Item = items_of before ++ item_of (one sign) ∷ pieces.first in
-    ap (λ (o : Option Choices). option_and_then (choice_at nothing single (kind_of all) all) o) h.behind
-    ∙ ap (λ (k : PieceKind). choice_at nothing single k all (choices_of h.lead others last)) (arm_kind before sign pieces.first t.some (t.closed is_arrow (arrows nothing)) is h.plain_first)
-    ∙ ap (λ (o : Option (List Tree)). option_and_then (arm_with single (choices_of h.lead others last) (body_with nothing pieces.first h.lead)) o) t.read
-    ∙ ap (λ (b : Bool). arm_if b trees (choices_of h.lead others last) (body_with nothing pieces.first h.lead)) fit
+    ap (λ (o : Option Choices). option_and_then (choice_at splittings.Nothing single (kind_of all) all) o) h.behind
+    ∙ ap (λ (k : PieceKind). choice_at splittings.Nothing single k all (choices_of h.lead others last)) (arm_kind before sign pieces.first t.some (t.closed is_arrow (arrows splittings.Nothing)) is h.plain_first)
+    ∙ ap (λ (o : Option (List Tree)). option_and_then (arm_with single (choices_of h.lead others last) (body_with splittings.Nothing pieces.first h.lead)) o) t.read
+    ∙ ap (λ (b : Bool). arm_if b trees (choices_of h.lead others last) (body_with splittings.Nothing pieces.first h.lead)) fit
     ∙ ap (option_map (arm_of trees others last)) h.inside
 
-arm_read : (single : Bool) (trees : List Tree) (items : List ItemTree) (others : List Arm) (last : Otherwise) (before : Fragments) (sign : Token) (after : Fragments) → TestsRead trees before → role_of sign ≡ arrow → suits single trees ≡ true
+arm_read : (single : Bool) (trees : List Tree) (items : List ItemTree) (others : List Arm) (last : Otherwise) (before : Fragments) (sign : Token) (after : Fragments) → TestsRead trees before → role_of sign ≡ roles.Arrow → suits single trees ≡ true
     → OpenedAt single items others last (cut is_semicolon false (items_of after))
-    → choices_pieces nothing single (cut is_semicolon false (items_of (before ++ one sign ∷ after))) ≡ Some (choices_of [] (arm (tests_of trees) (body_of items) ∷ others) last)
+    → choices_pieces splittings.Nothing single (cut is_semicolon false (items_of (before ++ one sign ∷ after))) ≡ Some (choices_of [] (arm (tests_of trees) (body_of items) ∷ others) last)
 arm_read single trees items others last before sign after t is fit h =
-    ap (choices_pieces nothing single) (arm_pieces before sign after (t.closed is_semicolon (semicolons nothing)) is) ∙ arm_choice single trees items others last before sign (cut is_semicolon false (items_of after)) t is fit h
+    ap (choices_pieces splittings.Nothing single) (arm_pieces before sign after (t.closed is_semicolon (semicolons splittings.Nothing)) is) ∙ arm_choice single trees items others last before sign (cut is_semicolon false (items_of after)) t is fit h
 
 not_semicolon_open : (before : Fragments) (last : SeenFragment) → is_semicolon last ≡ false → Open (before ++ last ∷ [])
 not_semicolon_open before last e = open_on before last [] (rw e refl)
 
-open_arm : (trees : List ItemTree) (before : Fragments) (sign : Token) (after : Fragments) → role_of sign ≡ arrow → OpenRead trees after → Open (before ++ one sign ∷ after)
+open_arm : (trees : List ItemTree) (before : Fragments) (sign : Token) (after : Fragments) → role_of sign ≡ roles.Arrow → OpenRead trees after → Open (before ++ one sign ∷ after)
 open_arm trees before sign after is (inl (none, empty)) =
     let (arrow_is, no_semicolon, no_let) = arrow_facts sign is in
     subst (λ (fs : Fragments). Open (before ++ one sign ∷ fs)) (sym empty) (not_semicolon_open before (one sign) no_semicolon)
 open_arm trees before sign after is (inr h) = open_behind before (one sign) after h.ends h.some
 
-pub last_arm_read : (single : Bool) (trees : List Tree) (items : List ItemTree) (sign : Token) (before after all : Fragments) → all ≡ before ++ one sign ∷ after → role_of sign ≡ arrow → suits single trees ≡ true → TestsRead trees before → OpenRead items after
+pub last_arm_read : (single : Bool) (trees : List Tree) (items : List ItemTree) (sign : Token) (before after all : Fragments) → all ≡ before ++ one sign ∷ after → role_of sign ≡ roles.Arrow → suits single trees ≡ true → TestsRead trees before → OpenRead items after
     → ChoicesRead single (arm (tests_of trees) (body_of items) ∷ []) no_otherwise all
 last_arm_read single trees items sign before after all parts is fit t h =
     subst (ChoicesRead single (arm (tests_of trees) (body_of items) ∷ []) no_otherwise) (sym parts)
@@ -152,7 +155,7 @@ last_arm_read single trees items sign before after all parts is fit t h =
     })
 
 pub more_arms_read : (single : Bool) (trees : List Tree) (items : List ItemTree) (others : List Arm) (last : Otherwise) (sign separator : Token) (before middle after all : Fragments) → all ≡ before ++ one sign ∷ (middle ++ one separator ∷ after)
-    → role_of sign ≡ arrow → role_of separator ≡ semicolon → suits single trees ≡ true → TestsRead trees before → OpenRead items middle → ChoicesRead single others last after → ChoicesRead single (arm (tests_of trees) (body_of items) ∷ others) last all
+    → role_of sign ≡ roles.Arrow → role_of separator ≡ roles.Semicolon → suits single trees ≡ true → TestsRead trees before → OpenRead items middle → ChoicesRead single others last after → ChoicesRead single (arm (tests_of trees) (body_of items) ∷ others) last all
 more_arms_read single trees items others last sign separator before middle after all parts is semi fit t h k =
     subst (ChoicesRead single (arm (tests_of trees) (body_of items) ∷ others) last) (sym parts)
     (record {
@@ -161,7 +164,7 @@ more_arms_read single trees items others last sign separator before middle after
       some = nonempty_on before (one sign) (middle ++ one separator ∷ after);
     })
 
-remains_facts : (word : Token) → role_of word ≡ remains → (is_remains (one word) ≡ true) × (is_semicolon (one word) ≡ false) × (is_let (one word) ≡ false)
+remains_facts : (word : Token) → role_of word ≡ roles.Remains → (is_remains (one word) ≡ true) × (is_semicolon (one word) ≡ false) × (is_let (one word) ≡ false)
 remains_facts word is = (rw is refl, rw is refl, rw is refl)
 
 plain_without : (items : List Item) → cut is_arrow false items ≡ ended items → without_arrow items ≡ items
@@ -173,21 +176,21 @@ plain_without (first ∷ rest) e = go (is_arrow first.fragment) e
     go false f = refl
 
 -- `otherwise` and what stands behind it
-remains_choice : (single : Bool) (items : List ItemTree) (word : Token) (front : List Item) (pieces : Pieces) → role_of word ≡ remains → without_arrow front ≡ pieces.first → OpenedAt single items [] no_otherwise pieces
-    → choices_pieces nothing single (record { first = item_of (one word) ∷ front; others = pieces.others }) ≡ Some (choices_of [] [] (otherwise (body_of items)))
+remains_choice : (single : Bool) (items : List ItemTree) (word : Token) (front : List Item) (pieces : Pieces) → role_of word ≡ roles.Remains → without_arrow front ≡ pieces.first → OpenedAt single items [] no_otherwise pieces
+    → choices_pieces splittings.Nothing single (record { first = item_of (one word) ∷ front; others = pieces.others }) ≡ Some (choices_of [] [] (otherwise (body_of items)))
 remains_choice single items word front pieces is same h =
     let (remains_is, no_semicolon, no_let) = remains_facts word is in
     let all : List Item = item_of (one word) ∷ front in
-    ap (λ (o : Option Choices). option_and_then (choice_at nothing single (kind_of all) all) o) h.behind
-    ∙ ap (λ (b : Bool). choice_at nothing single (kind_at b front (cut is_arrow false all)) all (choices_of h.lead [] no_otherwise)) remains_is
-    ∙ ap (λ (list : List Item). last_with [] no_otherwise (body_with nothing list h.lead)) same ∙ ap (option_map last_of) h.inside
+    ap (λ (o : Option Choices). option_and_then (choice_at splittings.Nothing single (kind_of all) all) o) h.behind
+    ∙ ap (λ (b : Bool). choice_at splittings.Nothing single (kind_at b front (cut is_arrow false all)) all (choices_of h.lead [] no_otherwise)) remains_is
+    ∙ ap (λ (list : List Item). last_with [] no_otherwise (body_with splittings.Nothing list h.lead)) same ∙ ap (option_map last_of) h.inside
 
-pub last_choice_read : (single : Bool) (items : List ItemTree) (word : Token) (after : Fragments) → role_of word ≡ remains → OpenRead items after → ChoicesRead single [] (otherwise (body_of items)) (one word ∷ after)
+pub last_choice_read : (single : Bool) (items : List ItemTree) (word : Token) (after : Fragments) → role_of word ≡ roles.Remains → OpenRead items after → ChoicesRead single [] (otherwise (body_of items)) (one word ∷ after)
 last_choice_read single items word after is h =
     let (remains_is, no_semicolon, no_let) = remains_facts word is in
     let o = opened_end single items after h in
     record {
-      read = ap (choices_pieces nothing single) (cut_front is_semicolon false (one word ∷ []) (items_of after) (no_semicolon, no_let))
+      read = ap (choices_pieces splittings.Nothing single) (cut_front is_semicolon false (one word ∷ []) (items_of after) (no_semicolon, no_let))
           ∙ remains_choice single items word (cut is_semicolon false (items_of after)).first (cut is_semicolon false (items_of after)) is (plain_without (cut is_semicolon false (items_of after)).first o.plain_first) o;
       ends = open_word h;
       some = (one word, after, refl);
@@ -199,13 +202,13 @@ last_choice_read single items word after is h =
         subst (λ (fs : Fragments). Open (one word ∷ fs)) (sym empty) (not_semicolon_open [] (one word) no_semicolon)
     open_word (inr k) = open_behind [] (one word) after k.ends k.some
 
-pub last_choice_arrow_read : (single : Bool) (items : List ItemTree) (word sign : Token) (after : Fragments) → role_of word ≡ remains → role_of sign ≡ arrow → OpenRead items after → ChoicesRead single [] (otherwise (body_of items)) (one word ∷ one sign ∷ after)
+pub last_choice_arrow_read : (single : Bool) (items : List ItemTree) (word sign : Token) (after : Fragments) → role_of word ≡ roles.Remains → role_of sign ≡ roles.Arrow → OpenRead items after → ChoicesRead single [] (otherwise (body_of items)) (one word ∷ one sign ∷ after)
 last_choice_arrow_read single items word sign after is also h =
     let (remains_is, no_semicolon, no_let) = remains_facts word is in
     let (arrow_is, sign_no_semicolon, sign_no_let) = arrow_facts sign also in
     let pieces : Pieces = cut is_semicolon false (items_of after) in
     record {
-      read = ap (choices_pieces nothing single) (cut_front is_semicolon false (one word ∷ one sign ∷ []) (items_of after) (no_semicolon, closed_at no_let sign_no_semicolon sign_no_let))
+      read = ap (choices_pieces splittings.Nothing single) (cut_front is_semicolon false (one word ∷ one sign ∷ []) (items_of after) (no_semicolon, closed_at no_let sign_no_semicolon sign_no_let))
           ∙ remains_choice single items word (item_of (one sign) ∷ pieces.first) pieces is (ap (λ (b : Bool). arrow_left b (item_of (one sign)) pieces.first) arrow_is) (opened_end single items after h);
       ends = open_arm items (one word ∷ []) sign after also h;
       some = (one word, one sign ∷ after, refl);
@@ -228,7 +231,7 @@ arms_some single (x ∷ rest) some = refl
 pub some_arms_read : (single : Bool) (trees : List Arm) (last : Otherwise) (fragments : Fragments) → ChoicesRead single trees last fragments → ArmsRead single trees last fragments
 some_arms_read single trees last fragments h = arms_some single fragments h.some ∙ ap (some_arms_items single) h.ends ∙ some_read single trees last fragments h
 
-pub ended_arms_read : (single : Bool) (trees : List Arm) (last : Otherwise) (separator : Token) (before all : Fragments) → all ≡ before ++ one separator ∷ [] → role_of separator ≡ semicolon → ChoicesRead single trees last before → ArmsRead single trees last all
+pub ended_arms_read : (single : Bool) (trees : List Arm) (last : Otherwise) (separator : Token) (before all : Fragments) → all ≡ before ++ one separator ∷ [] → role_of separator ≡ roles.Semicolon → ChoicesRead single trees last before → ArmsRead single trees last all
 ended_arms_read single trees last separator before all parts is h =
     subst (ArmsRead single trees last) (sym parts)
     (arms_some single (before ++ one separator ∷ []) (nonempty_on before (one separator) []) ∙ ap (some_arms_items single) (end_cut before separator is) ∙ some_read single trees last before h)
@@ -236,21 +239,21 @@ ended_arms_read single trees last separator before all parts is h =
 abbrev pub HeadRead : Tree → Option Tree → Fragments → Type 0
 HeadRead selected test fragments = head_items (items_of fragments) ≡ Some (record { selected = selected; test = test })
 
-pub identity_read : (selected : Tree) (fragments : Fragments) (state : State) → reads tests (wants whole) fragments ≡ Some state → tree_of state ≡ Some selected → HeadRead selected None fragments
+pub identity_read : (selected : Tree) (fragments : Fragments) (state : State) → reads splittings.Tests (wants whole) fragments ≡ Some state → tree_of state ≡ Some selected → HeadRead selected None fragments
 identity_read selected fragments state e f =
-    ap head_pieces (cut_end (is_splitter tests) false fragments (inner_closed tests (is_splitter tests) (splitters tests) fragments (reads_inner tests fragments (wants whole) state e)))
-    ∙ ap (option_map head_alone) (expression_read tests selected fragments state e f)
+    ap head_pieces (cut_end (is_splitter splittings.Tests) false fragments (inner_closed splittings.Tests (is_splitter splittings.Tests) (splitters splittings.Tests) fragments (reads_inner splittings.Tests fragments (wants whole) state e)))
+    ∙ ap (option_map head_alone) (expression_read splittings.Tests selected fragments state e f)
 
-by_splits : (word : Token) → splitter_of word ≡ by_word → splits tests word ≡ true
+by_splits : (word : Token) → splitter_of word ≡ splitter_words.By → splits splittings.Tests word ≡ true
 by_splits word is = rw is refl
 
-pub test_read : (selected test : Tree) (word : Token) (before after all : Fragments) → all ≡ before ++ one word ∷ after → splitter_of word ≡ by_word → (state next : State) → reads tests (wants whole) before ≡ Some state → tree_of state ≡ Some selected
-    → reads tests (wants whole) after ≡ Some next → tree_of next ≡ Some test → HeadRead selected (Some test) all
+pub test_read : (selected test : Tree) (word : Token) (before after all : Fragments) → all ≡ before ++ one word ∷ after → splitter_of word ≡ splitter_words.By → (state next : State) → reads splittings.Tests (wants whole) before ≡ Some state → tree_of state ≡ Some selected
+    → reads splittings.Tests (wants whole) after ≡ Some next → tree_of next ≡ Some test → HeadRead selected (Some test) all
 test_read selected test word before after all parts is state next e f g k =
-    let h = reads_inner tests before (wants whole) state e in
-    let m = reads_inner tests after (wants whole) next g in
+    let h = reads_inner splittings.Tests before (wants whole) state e in
+    let m = reads_inner splittings.Tests after (wants whole) next g in
     ap (λ (fs : Fragments). head_items (items_of fs)) parts
-    ∙ ap head_pieces (joined_on (is_splitter tests) false before (one word) after (inner_closed tests (is_splitter tests) (splitters tests) before h) (by_splits word is)
-    ∙ ap (joined (items_of before) (one word)) (cut_end (is_splitter tests) false after (inner_closed tests (is_splitter tests) (splitters tests) after m)))
-    ∙ ap (λ (o : Option Tree). option_and_then (head_with (items_of after)) o) (expression_read tests selected before state e f)
-    ∙ ap (option_map (head_by selected)) (expression_read tests test after next g k)
+    ∙ ap head_pieces (joined_on (is_splitter splittings.Tests) false before (one word) after (inner_closed splittings.Tests (is_splitter splittings.Tests) (splitters splittings.Tests) before h) (by_splits word is)
+    ∙ ap (joined (items_of before) (one word)) (cut_end (is_splitter splittings.Tests) false after (inner_closed splittings.Tests (is_splitter splittings.Tests) (splitters splittings.Tests) after m)))
+    ∙ ap (λ (o : Option Tree). option_and_then (head_with (items_of after)) o) (expression_read splittings.Tests selected before state e f)
+    ∙ ap (option_map (head_by selected)) (expression_read splittings.Tests test after next g k)

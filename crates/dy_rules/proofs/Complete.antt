@@ -4,12 +4,21 @@ use Rattle.std.proofs.lemmas.Bool.{lt-ltb}
 use Rattle.dy_tree.specs.declared.token.Token.{Token}
 use Rattle.dy_tree.specs.declared.types.LiteralForm.TheVariants as literals
 use Rattle.dy_tree.specs.Fragments.{SeenFragment, one, group, SeenFragments, row}
-use Rattle.dy_rules.specs.Operators.{Precedence, sum, below}
+use Rattle.dy_tree.specs.declared.roles.Role.{Role}
+use Rattle.dy_tree.specs.declared.roles.Role.TheVariants as roles
+use Rattle.dy_tree.specs.declared.roles.Precedence.{Precedence}
+use Rattle.dy_tree.specs.declared.roles.Precedence.TheVariants as precedences
+use Rattle.dy_tree.specs.declared.brackets.Keyword.TheVariants as keywords
+use Rattle.dy_tree.specs.declared.brackets.Bracket.{Bracket}
+use Rattle.dy_tree.specs.declared.brackets.Bracket.TheVariants as enclosures
+use Rattle.dy_tree.specs.declared.splitters.Splitting.{Splitting}
+use Rattle.dy_tree.specs.declared.splitters.Splitting.TheVariants as splittings
+use Rattle.dy_rules.specs.Operators.{below}
 use Rattle.dy_rules.specs.ConstantTrees.{Constant, constants_of, tail_of}
 use Rattle.dy_rules.specs.Trees.{Tree, operation, call, element, member, literal, name, Argument, keyword, value, arguments_of, list, vector, begin_tree, if_tree, guarded, body_of, alternatives_of, case_tree, select_tree, maybe_of, arms_of, block_tree, for_tree, block_clauses_of, for_clauses_of, stop_of, no_limit, method_tree, parameters_of}
 use Rattle.dy_rules.specs.ConstantReading.{Inside, inside, list_in, vector_in}
 use Rattle.dy_rules.proofs.ConstantComplete.{list_complete, vector_complete}
-use Rattle.dy_rules.specs.Roles.{Role, integer, character, string, boolean, symbol, named, operator, minus, tilde, assigns, dot, comma, other, role_of, precedence_of, Splitting, nothing, Bracket, round, square, hidden, sharp_round, sharp_square, special, bracket_of, positive, statement, begin_word, if_word, guard_word, branches, semicolon, arrow, colons, lets, locals, handlers, remains, case_word, select_word, tests, block_word, for_word, endings, steps, last_part, method_word, defines}
+use Rattle.dy_rules.specs.Roles.{role_of, precedence_of, bracket_of, positive}
 use Rattle.dy_rules.specs.Arguments.{begins_value, passes_two, is_symbol}
 use Rattle.dy_rules.specs.Productions.{Brackets, is_integer, Sort, leaf, operand, signed, level, expression, argument, some_arguments, arguments, Derives, integer_leaf, character_leaf, string_leaf, boolean_leaf, symbol_leaf, name_leaf, bracket_leaf, leaf_operand, call_operand, element_operand, member_operand, operand_signed, negative_signed, minus_signed, tilde_signed, signed_level, up_level, operation_level, level_expression, assignment_expression, keyword_argument, value_argument, one_argument, more_arguments, no_arguments, all_arguments, list_leaf, vector_leaf, an_item, some_items, a_body, alternatives, begin_leaf, guarded_leaf, if_leaf, by_let, by_handler, by_expression, last_item, more_items, empty_body, separator_body, items_body, ended_body, no_alternatives, by_else, more_alternatives, some_tests, open_body, choices, arms, head, case_leaf, select_leaf, one_test, more_tests, empty_open, items_open, last_arm, more_arms, last_choice, last_choice_arrow, no_arms, some_arms, ended_arms, by_identity, by_test, block_clauses, for_clause, range, for_clauses, for_head, ending_part, block_leaf, for_leaf, no_block_clause, by_afterwards, by_cleanup, by_exception, by_then, by_in, by_from, no_range, step_range, limit_range, last_clause, only_stop, more_clauses, empty_head, some_clauses, no_finally, by_finally, list_of, initial, key, more_keys, listed, brackets, signature, local_methods, method_leaf, no_initial, by_initial, plain_key, named_key, no_more_keys, all_keys, key_and_more, last_required, more_required, last_next, more_next, last_rest, more_rest, bare_keys, first_key, empty_brackets, some_listed, by_signature, by_local, last_method, more_methods}
 use Rattle.dy_rules.specs.Reading.{Outer, whole, operated, under, assigned, Part, State, wants, counted, has, dotted, reduced, finished, under_sign, integer_part, settled, operates, assigns_to, behind, at_token, indexed, called, group_behind, group_at_operand, at_group, finished_part, tree_of, Passing, nothing_passed, passes_next, symbol_first, passing, with_last, arguments_in, arguments_at_end, fresh_role, fresh, at_separator, or_else, after_item, in_value, by_symbol, after_argument, in_brackets, expression_items, passed_items}
@@ -38,7 +47,7 @@ part_before height state = option_map (reduced_part height) (settled state)
 
 -- the operand was read
 pub data AfterOperand (tree : Tree) (outer : Outer) (fragments : List SeenFragment) (state : State) : Type 0 where
-  counts : (token : Token) → tree ≡ literal (positive token) → role_of token ≡ integer → fragments ≡ one token ∷ [] → state ≡ counted token outer → AfterOperand tree outer fragments state
+  counts : (token : Token) → tree ≡ literal (positive token) → role_of token ≡ roles.Integer → fragments ≡ one token ∷ [] → state ≡ counted token outer → AfterOperand tree outer fragments state
   holds : state ≡ has tree outer → AfterOperand tree outer fragments state
 
 pub record Read (words : Splitting) (outer : Outer) (fragments : List SeenFragment) (P : State → Type 0) : Type 0 where
@@ -99,34 +108,34 @@ finishes height state tree outer e = go (settled state) e
 read_one : (words : Splitting) (state : State) (fragment : SeenFragment) (next : State) → after_item words state (item_of fragment) ≡ Some next → reads words state (fragment ∷ []) ≡ Some next
 read_one words state fragment next e = rw e refl
 
-inner_expression : (inner : SeenFragments) (tree : Tree) → Read nothing whole (row inner) (λ state. tree_of state ≡ Some (finished tree whole)) → expression_in nothing inner ≡ Some tree
+inner_expression : (inner : SeenFragments) (tree : Tree) → Read splittings.Nothing whole (row inner) (λ state. tree_of state ≡ Some (finished tree whole)) → expression_in splittings.Nothing inner ≡ Some tree
 inner_expression inner tree h =
-    let e : reads nothing (wants whole) (row inner) ≡ Some h.state = h.read in
-    ap (expression_items nothing) (items_row inner) ∙ ap (λ (state : Option State). option_and_then tree_of state) e ∙ h.after
+    let e : reads splittings.Nothing (wants whole) (row inner) ≡ Some h.state = h.read in
+    ap (expression_items splittings.Nothing) (items_row inner) ∙ ap (λ (state : Option State). option_and_then tree_of state) e ∙ h.after
 
 inner_arguments : (inner : SeenFragments) (passed : List Argument) → Passes nothing_passed (row inner) (λ next. arguments_at_end next ≡ Some passed) → passed_in inner ≡ Some passed
 inner_arguments inner passed h =
     let e : passes nothing_passed (row inner) ≡ Some h.next = h.read in
     ap passed_items (items_row inner) ∙ ap (λ (reader : Option Passing). option_and_then arguments_at_end reader) e ∙ h.after
 
-bracket_reads : (bracket : Bracket) (outer : Outer) (tree : Tree) (opener : Token) (inner : SeenFragments) → Brackets bracket → expression_in nothing inner ≡ Some tree → group_at_operand outer bracket (tree_inside bracket opener inner (items_in inner)) ≡ Some (has tree outer)
-bracket_reads round outer tree opener inner h e = rw e refl
-bracket_reads hidden outer tree opener inner h e = rw e refl
-bracket_reads square outer tree opener inner h e = absurd h
-bracket_reads sharp_round outer tree opener inner h e = absurd h
-bracket_reads sharp_square outer tree opener inner h e = absurd h
-bracket_reads (statement kind) outer tree opener inner h e = absurd h
-bracket_reads special outer tree opener inner h e = absurd h
+bracket_reads : (bracket : Bracket) (outer : Outer) (tree : Tree) (opener : Token) (inner : SeenFragments) → Brackets bracket → expression_in splittings.Nothing inner ≡ Some tree → group_at_operand outer bracket (tree_inside bracket opener inner (items_in inner)) ≡ Some (has tree outer)
+bracket_reads enclosures.Round outer tree opener inner h e = rw e refl
+bracket_reads enclosures.Hidden outer tree opener inner h e = rw e refl
+bracket_reads enclosures.Square outer tree opener inner h e = absurd h
+bracket_reads enclosures.SharpRound outer tree opener inner h e = absurd h
+bracket_reads enclosures.SharpSquare outer tree opener inner h e = absurd h
+bracket_reads (enclosures.Statement kind) outer tree opener inner h e = absurd h
+bracket_reads enclosures.Special outer tree opener inner h e = absurd h
 
-list_reads : (bracket : Bracket) (outer : Outer) (opener : Token) (inner : SeenFragments) (items : List Constant) (last : Option Constant) (within : List Item) → bracket ≡ sharp_round → list_in inner ≡ Some (inside items last)
+list_reads : (bracket : Bracket) (outer : Outer) (opener : Token) (inner : SeenFragments) (items : List Constant) (last : Option Constant) (within : List Item) → bracket ≡ enclosures.SharpRound → list_in inner ≡ Some (inside items last)
     → group_at_operand outer bracket (tree_inside bracket opener inner within) ≡ Some (has (list opener (constants_of items) (tail_of last)) outer)
 list_reads bracket outer opener inner items last within is e = rw is (ap (λ (o : Option Inside). option_map (in_brackets outer) (option_map (list_tree opener) o)) e)
 
-vector_reads : (bracket : Bracket) (outer : Outer) (opener : Token) (inner : SeenFragments) (items : List Constant) (within : List Item) → bracket ≡ sharp_square → vector_in inner ≡ Some items
+vector_reads : (bracket : Bracket) (outer : Outer) (opener : Token) (inner : SeenFragments) (items : List Constant) (within : List Item) → bracket ≡ enclosures.SharpSquare → vector_in inner ≡ Some items
     → group_at_operand outer bracket (tree_inside bracket opener inner within) ≡ Some (has (vector opener (constants_of items)) outer)
 vector_reads bracket outer opener inner items within is e = rw is (ap (λ (o : Option (List Constant)). option_map (in_brackets outer) (option_map (vector_tree opener) o)) e)
 
-element_step : (inner : SeenFragments) (outer : Outer) (object index : Tree) (opener closer : Token) → bracket_of opener closer ≡ square → expression_in nothing inner ≡ Some index
+element_step : (inner : SeenFragments) (outer : Outer) (object index : Tree) (opener closer : Token) → bracket_of opener closer ≡ enclosures.Square → expression_in splittings.Nothing inner ≡ Some index
     → group_behind (object, outer) opener (bracket_of opener closer) (tree_inside (bracket_of opener closer) opener inner (items_in inner)) (passed_in inner) ≡ Some (indexed (object, outer) opener index)
 element_step inner outer object index opener closer is e =
     ap (λ (b : Bracket). group_behind (object, outer) opener b (tree_inside b opener inner (items_in inner)) (passed_in inner)) is ∙ ap (λ (o : Option Tree). option_map (indexed (object, outer) opener) o) e
@@ -136,21 +145,21 @@ behind_group : (state : State) (tree : Tree) (outer : Outer) (fragments : Fragme
 behind_group state tree outer fragments opener bracket found passed (counts token is role one_only e) = rw (e, is) refl
 behind_group state tree outer fragments opener bracket found passed (holds e) = rw e refl
 
-behind_point : (words : Splitting) (state : State) (tree : Tree) (outer : Outer) (fragments : Fragments) (point : Token) → AfterOperand tree outer fragments state → role_of point ≡ dot → at_token words state point ≡ Some (dotted tree outer)
+behind_point : (words : Splitting) (state : State) (tree : Tree) (outer : Outer) (fragments : Fragments) (point : Token) → AfterOperand tree outer fragments state → role_of point ≡ roles.Dot → at_token words state point ≡ Some (dotted tree outer)
 behind_point words state tree outer fragments point (counts token is role one_only e) h = rw (e, is) (behind_dot_is (literal (positive token), outer) (integer_part token outer) point (role_of point) h)
   where
-    behind_dot_is : (alone part : Part) (point : Token) (role : Role) → role ≡ dot → behind alone part point role ≡ Some (dotted alone.0 alone.1)
+    behind_dot_is : (alone part : Part) (point : Token) (role : Role) → role ≡ roles.Dot → behind alone part point role ≡ Some (dotted alone.0 alone.1)
     behind_dot_is alone part point role f = rw f refl
 behind_point words state tree outer fragments point (holds e) h = rw e (rw h refl)
 
-under_no_minus : (role : Role) (sign digits : Token) (outer : Outer) → (role ≡ minus → ⊥) → under_sign role sign digits outer ≡ (literal (positive digits), under sign outer)
-under_no_minus minus sign digits outer h = absurd (h refl)
+under_no_minus : (role : Role) (sign digits : Token) (outer : Outer) → (role ≡ roles.Minus → ⊥) → under_sign role sign digits outer ≡ (literal (positive digits), under sign outer)
+under_no_minus roles.Minus sign digits outer h = absurd (h refl)
 under_no_minus role sign digits outer h = refl
 
-integer_is : (token : Token) → role_of token ≡ integer → is_integer (one token ∷ []) ≡ true
+integer_is : (token : Token) → role_of token ≡ roles.Integer → is_integer (one token ∷ []) ≡ true
 integer_is token h = rw h refl
 
-integer_alone : (token : Token) (outer : Outer) → role_of token ≡ integer → NoNegative outer (one token ∷ []) → integer_part token outer ≡ (literal (positive token), outer)
+integer_alone : (token : Token) (outer : Outer) → role_of token ≡ roles.Integer → NoNegative outer (one token ∷ []) → integer_part token outer ≡ (literal (positive token), outer)
 integer_alone token whole h k = refl
 integer_alone token (operated precedence left sign outer) h k = refl
 integer_alone token (under sign outer) h k = under_no_minus (role_of sign) sign token outer (λ is. let e = k is in let f = integer_is token h in absurd cc)
@@ -163,8 +172,8 @@ settled_operand state tree outer fragments (counts token is role one_only e) k =
 settled_operand state tree outer fragments (holds e) k = rw e refl
 
 behind_operator : (role : Role) (alone part : Part) (sign : Token) (precedence : Precedence) → precedence_of role ≡ Some precedence → behind alone part sign role ≡ Some (operates precedence sign (reduced (suc (below precedence)) part.0 part.1))
-behind_operator (operator found) alone part sign precedence e = let is = some_one found precedence e in rw is refl
-behind_operator minus alone part sign precedence e = let is = some_one sum precedence e in rw (← is) refl
+behind_operator (roles.Operator found) alone part sign precedence e = let is = some_one found precedence e in rw is refl
+behind_operator roles.Minus alone part sign precedence e = let is = some_one precedences.Sum precedence e in rw (← is) refl
 behind_operator role alone part sign precedence e = absurd cc
 
 operator_step : (words : Splitting) (state : State) (left : Tree) (outer : Outer) (sign : Token) (precedence : Precedence) → precedence_of (role_of sign) ≡ Some precedence
@@ -176,40 +185,40 @@ operator_step words (has tree inner) left outer sign precedence e h =
     behind_operator (role_of sign) (tree, inner) (tree, inner) sign precedence e ∙ ap (λ (part : Part). Some (operates precedence sign part)) (some_one _ _ h)
 operator_step words (dotted tree inner) left outer sign precedence e h = absurd cc
 
-assigns_step : (words : Splitting) (state : State) (place : Tree) (outer : Outer) (sign : Token) → role_of sign ≡ assigns → part_before 5 state ≡ Some (place, outer) → at_token words state sign ≡ Some (wants (assigned place outer))
+assigns_step : (words : Splitting) (state : State) (place : Tree) (outer : Outer) (sign : Token) → role_of sign ≡ roles.Assigns → part_before 5 state ≡ Some (place, outer) → at_token words state sign ≡ Some (wants (assigned place outer))
 assigns_step words (wants inner) place outer sign e h = absurd cc
 assigns_step words (counted digits inner) place outer sign e h = rw e (ap (λ (part : Part). Some (assigns_to part)) (some_one _ _ h))
 assigns_step words (has tree inner) place outer sign e h = rw e (ap (λ (part : Part). Some (assigns_to part)) (some_one _ _ h))
 assigns_step words (dotted tree inner) place outer sign e h = absurd cc
 
 -- what is read by itself is read as a part of an argument
-passing_reads : (fragments : Fragments) (before : List Argument) (token : Option Token) (state next : State) → reads nothing state fragments ≡ Some next → passes (passing before token state) fragments ≡ Some (passing before token next)
+passing_reads : (fragments : Fragments) (before : List Argument) (token : Option Token) (state next : State) → reads splittings.Nothing state fragments ≡ Some next → passes (passing before token state) fragments ≡ Some (passing before token next)
 passing_reads [] before token state next e = ap (λ (s : State). Some (passing before token s)) (some_one state next e)
-passing_reads (first ∷ rest) before token state next e = passed_on (after_item nothing state (item_of first)) (λ s. passing_reads rest before token s next) e
+passing_reads (first ∷ rest) before token state next e = passed_on (after_item splittings.Nothing state (item_of first)) (λ s. passing_reads rest before token s next) e
   where
-    passed_on : (found : Option State) → ((s : State) → reads nothing s rest ≡ Some next → passes (passing before token s) rest ≡ Some (passing before token next))
-        → option_and_then (λ (s : State). reads nothing s rest) found ≡ Some next
+    passed_on : (found : Option State) → ((s : State) → reads splittings.Nothing s rest ≡ Some next → passes (passing before token s) rest ≡ Some (passing before token next))
+        → option_and_then (λ (s : State). reads splittings.Nothing s rest) found ≡ Some next
         → option_and_then (λ (reader : Passing). passes reader rest) (or_else (option_map (passing before token) found) (at_separator (passing before token state) first)) ≡ Some (passing before token next)
     passed_on None more f = absurd cc
     passed_on (Some s) more f = more s f
 
 -- the same where the first fragment is read by another way to begin
-value_reads : (first : SeenFragment) (rest : Fragments) (before : List Argument) (token : Option Token) (state next : State) (others : Option Passing) → reads nothing state (first ∷ rest) ≡ Some next
+value_reads : (first : SeenFragment) (rest : Fragments) (before : List Argument) (token : Option Token) (state next : State) (others : Option Passing) → reads splittings.Nothing state (first ∷ rest) ≡ Some next
     → option_and_then (λ (reader : Passing). passes reader rest) (or_else (in_value before token state (item_of first)) others) ≡ Some (passing before token next)
-value_reads first rest before token state next others e = passed_on (after_item nothing state (item_of first)) (λ s. passing_reads rest before token s next) e
+value_reads first rest before token state next others e = passed_on (after_item splittings.Nothing state (item_of first)) (λ s. passing_reads rest before token s next) e
   where
-    passed_on : (found : Option State) → ((s : State) → reads nothing s rest ≡ Some next → passes (passing before token s) rest ≡ Some (passing before token next))
-        → option_and_then (λ (s : State). reads nothing s rest) found ≡ Some next
+    passed_on : (found : Option State) → ((s : State) → reads splittings.Nothing s rest ≡ Some next → passes (passing before token s) rest ≡ Some (passing before token next))
+        → option_and_then (λ (s : State). reads splittings.Nothing s rest) found ≡ Some next
         → option_and_then (λ (reader : Passing). passes reader rest) (or_else (option_map (passing before token) found) others) ≡ Some (passing before token next)
     passed_on None more f = absurd cc
     passed_on (Some s) more f = more s f
 
-keyword_reads : (first : SeenFragment) (rest : Fragments) (before : List Argument) (token : Option Token) (state next : State) → reads nothing state (first ∷ rest) ≡ Some next
+keyword_reads : (first : SeenFragment) (rest : Fragments) (before : List Argument) (token : Option Token) (state next : State) → reads splittings.Nothing state (first ∷ rest) ≡ Some next
     → option_and_then (λ (reader : Passing). passes reader rest) (in_value before token state (item_of first)) ≡ Some (passing before token next)
-keyword_reads first rest before token state next e = passed_on (after_item nothing state (item_of first)) (λ s. passing_reads rest before token s next) e
+keyword_reads first rest before token state next e = passed_on (after_item splittings.Nothing state (item_of first)) (λ s. passing_reads rest before token s next) e
   where
-    passed_on : (found : Option State) → ((s : State) → reads nothing s rest ≡ Some next → passes (passing before token s) rest ≡ Some (passing before token next))
-        → option_and_then (λ (s : State). reads nothing s rest) found ≡ Some next
+    passed_on : (found : Option State) → ((s : State) → reads splittings.Nothing s rest ≡ Some next → passes (passing before token s) rest ≡ Some (passing before token next))
+        → option_and_then (λ (s : State). reads splittings.Nothing s rest) found ≡ Some next
         → option_and_then (λ (reader : Passing). passes reader rest) (option_map (passing before token) found) ≡ Some (passing before token next)
     passed_on None more f = absurd cc
     passed_on (Some s) more f = more s f
@@ -220,18 +229,18 @@ fresh_is reader before first_argument first e = rw e refl
 fresh_is reader before (next_argument others) first e = rw e refl
 
 -- a fresh argument, of which the front is a symbol
-fresh_symbol : (reader : Passing) (before : List Argument) → IsFresh reader before → (token : Token) → role_of token ≡ symbol → after_argument reader (one token) (item_of (one token)) ≡ Some (symbol_first before token)
+fresh_symbol : (reader : Passing) (before : List Argument) → IsFresh reader before → (token : Token) → role_of token ≡ roles.Symbol → after_argument reader (one token) (item_of (one token)) ≡ Some (symbol_first before token)
 fresh_symbol reader before first_argument token e = rw e refl
 fresh_symbol reader before (next_argument others) token e = rw e refl
 
-read_first : (first : SeenFragment) (rest : Fragments) (state next : State) → reads nothing state (first ∷ rest) ≡ Some next → (middle : State) × (after_item nothing state (item_of first) ≡ Some middle)
-read_first first rest state next e = go (after_item nothing state (item_of first)) refl e
+read_first : (first : SeenFragment) (rest : Fragments) (state next : State) → reads splittings.Nothing state (first ∷ rest) ≡ Some next → (middle : State) × (after_item splittings.Nothing state (item_of first) ≡ Some middle)
+read_first first rest state next e = go (after_item splittings.Nothing state (item_of first)) refl e
   where
-    go : (found : Option State) → after_item nothing state (item_of first) ≡ found → option_and_then (λ (s : State). reads nothing s rest) found ≡ Some next → (middle : State) × (after_item nothing state (item_of first) ≡ Some middle)
+    go : (found : Option State) → after_item splittings.Nothing state (item_of first) ≡ found → option_and_then (λ (s : State). reads splittings.Nothing s rest) found ≡ Some next → (middle : State) × (after_item splittings.Nothing state (item_of first) ≡ Some middle)
     go None is f = absurd cc
     go (Some middle) is f = (middle, is)
 
-keyword_complete : (token : Token) (tree : Tree) (fragments : Fragments) → role_of token ≡ symbol → Read nothing whole fragments (λ state. tree_of state ≡ Some tree)
+keyword_complete : (token : Token) (tree : Tree) (fragments : Fragments) → role_of token ≡ roles.Symbol → Read splittings.Nothing whole fragments (λ state. tree_of state ≡ Some tree)
     → (reader : Passing) (before : List Argument) → IsFresh reader before → Passes reader (one token ∷ fragments) (λ next. arguments_in next ≡ Some (before ++ keyword token tree ∷ []))
 keyword_complete token tree [] is h reader before f =
     let e : Some (wants whole) ≡ Some h.state = h.read in
@@ -239,7 +248,7 @@ keyword_complete token tree [] is h reader before f =
     let u : tree_of (wants whole) ≡ Some tree = ap tree_of (some_one _ _ e) ∙ t in
     absurd cc
 keyword_complete token tree (first ∷ rest) is h reader before f =
-    let e : reads nothing (wants whole) (first ∷ rest) ≡ Some h.state = h.read in
+    let e : reads splittings.Nothing (wants whole) (first ∷ rest) ≡ Some h.state = h.read in
     let t : tree_of h.state ≡ Some tree = h.after in
     let (middle, step) = read_first first rest (wants whole) h.state e in
     let begins : begins_value first ≡ true = begins_read first middle step in
@@ -249,43 +258,43 @@ keyword_complete token tree (first ∷ rest) is h reader before f =
       after = rw t refl;
     }
 
-symbol_read : (token : Token) → role_of token ≡ symbol → after_item nothing (wants whole) (item_of (one token)) ≡ Some (has (literal (literals.Symbol token)) whole)
+symbol_read : (token : Token) → role_of token ≡ roles.Symbol → after_item splittings.Nothing (wants whole) (item_of (one token)) ≡ Some (has (literal (literals.Symbol token)) whole)
 symbol_read token is = rw is refl
 
 two_false : (b c : Bool) → b ≡ true → (b && c) ≡ false → c ≡ false
 two_false true c e f = f
 two_false false c e f = absurd cc
 
-fresh_other : (role : Role) (before : List Argument) (token : Token) → (role ≡ symbol → ⊥) → fresh_role role before token ≡ None
-fresh_other symbol before token h = absurd (h refl)
+fresh_other : (role : Role) (before : List Argument) (token : Token) → (role ≡ roles.Symbol → ⊥) → fresh_role role before token ≡ None
+fresh_other roles.Symbol before token h = absurd (h refl)
 fresh_other role before token h = refl
 
 -- a role that is that of a symbol, or is not
-symbol_or : (role : Role) → (role ≡ symbol) ⊎ (role ≡ symbol → ⊥)
-symbol_or symbol = inl refl
-symbol_or integer = inr (λ e. cc)
-symbol_or character = inr (λ e. cc)
-symbol_or string = inr (λ e. cc)
-symbol_or boolean = inr (λ e. cc)
-symbol_or named = inr (λ e. cc)
-symbol_or (operator precedence) = inr (λ e. cc)
-symbol_or minus = inr (λ e. cc)
-symbol_or tilde = inr (λ e. cc)
-symbol_or assigns = inr (λ e. cc)
-symbol_or dot = inr (λ e. cc)
-symbol_or comma = inr (λ e. cc)
-symbol_or semicolon = inr (λ e. cc)
-symbol_or arrow = inr (λ e. cc)
-symbol_or colons = inr (λ e. cc)
-symbol_or lets = inr (λ e. cc)
-symbol_or handlers = inr (λ e. cc)
-symbol_or locals = inr (λ e. cc)
-symbol_or remains = inr (λ e. cc)
-symbol_or defines = inr (λ e. cc)
-symbol_or other = inr (λ e. cc)
+symbol_or : (role : Role) → (role ≡ roles.Symbol) ⊎ (role ≡ roles.Symbol → ⊥)
+symbol_or roles.Symbol = inl refl
+symbol_or roles.Integer = inr (λ e. cc)
+symbol_or roles.Character = inr (λ e. cc)
+symbol_or roles.Text = inr (λ e. cc)
+symbol_or roles.Boolean = inr (λ e. cc)
+symbol_or roles.Named = inr (λ e. cc)
+symbol_or (roles.Operator precedence) = inr (λ e. cc)
+symbol_or roles.Minus = inr (λ e. cc)
+symbol_or roles.Tilde = inr (λ e. cc)
+symbol_or roles.Assigns = inr (λ e. cc)
+symbol_or roles.Dot = inr (λ e. cc)
+symbol_or roles.Comma = inr (λ e. cc)
+symbol_or roles.Semicolon = inr (λ e. cc)
+symbol_or roles.Arrow = inr (λ e. cc)
+symbol_or roles.Colons = inr (λ e. cc)
+symbol_or roles.Lets = inr (λ e. cc)
+symbol_or roles.Handlers = inr (λ e. cc)
+symbol_or roles.Locals = inr (λ e. cc)
+symbol_or roles.Remains = inr (λ e. cc)
+symbol_or roles.Defines = inr (λ e. cc)
+symbol_or roles.Other = inr (λ e. cc)
 
 -- an argument whose front is no symbol
-plain_complete : (tree : Tree) (first : SeenFragment) (rest : Fragments) (state : State) → reads nothing (wants whole) (first ∷ rest) ≡ Some state → tree_of state ≡ Some tree
+plain_complete : (tree : Tree) (first : SeenFragment) (rest : Fragments) (state : State) → reads splittings.Nothing (wants whole) (first ∷ rest) ≡ Some state → tree_of state ≡ Some tree
     → (reader : Passing) (before : List Argument) → IsFresh reader before → fresh before first ≡ None → Passes reader (first ∷ rest) (λ next. arguments_in next ≡ Some (before ++ value tree ∷ []))
 plain_complete tree first rest state e t reader before f none =
     record { next = passing before None state; read = rw (fresh_is reader before f first none) (keyword_reads first rest before None (wants whole) state e); after = rw t refl }
@@ -295,10 +304,10 @@ one_read None state e = absurd cc
 one_read (Some found) state e = e
 
 -- an argument that begins with a symbol, which is not passed with a value
-symbol_complete : (tree : Tree) (token : Token) (rest : Fragments) (state : State) → role_of token ≡ symbol → reads nothing (wants whole) (one token ∷ rest) ≡ Some state → tree_of state ≡ Some tree → passes_two (one token ∷ rest) ≡ false
+symbol_complete : (tree : Tree) (token : Token) (rest : Fragments) (state : State) → role_of token ≡ roles.Symbol → reads splittings.Nothing (wants whole) (one token ∷ rest) ≡ Some state → tree_of state ≡ Some tree → passes_two (one token ∷ rest) ≡ false
     → (reader : Passing) (before : List Argument) → IsFresh reader before → Passes reader (one token ∷ rest) (λ next. arguments_in next ≡ Some (before ++ value tree ∷ []))
 symbol_complete tree token [] state is e t two reader before f =
-    let s : Some (has (literal (literals.Symbol token)) whole) ≡ Some state = sym (symbol_read token is) ∙ one_read (after_item nothing (wants whole) (item_of (one token))) state e in
+    let s : Some (has (literal (literals.Symbol token)) whole) ≡ Some state = sym (symbol_read token is) ∙ one_read (after_item splittings.Nothing (wants whole) (item_of (one token))) state e in
     let same = some_one _ _ s in
     record {
       next = symbol_first before token;
@@ -307,45 +316,45 @@ symbol_complete tree token [] state is e t two reader before f =
     }
 symbol_complete tree token (second ∷ more) state is e t two reader before f =
     let no : begins_value second ≡ false = two_false (is_symbol (role_of token)) (begins_value second) (rw is refl) two in
-    let r : reads nothing (has (literal (literals.Symbol token)) whole) (second ∷ more) ≡ Some state = ap (λ (o : Option State). option_and_then (λ (s : State). reads nothing s (second ∷ more)) o) (sym (symbol_read token is)) ∙ e in
+    let r : reads splittings.Nothing (has (literal (literals.Symbol token)) whole) (second ∷ more) ≡ Some state = ap (λ (o : Option State). option_and_then (λ (s : State). reads splittings.Nothing s (second ∷ more)) o) (sym (symbol_read token is)) ∙ e in
     record {
       next = passing before None state;
       read = rw (fresh_symbol reader before f token is, no) (value_reads second more before None (has (literal (literals.Symbol token)) whole) state (at_separator (symbol_first before token) second) r);
       after = rw t refl;
     }
 
-argument_complete : (tree : Tree) (fragments : Fragments) → passes_two fragments ≡ false → Read nothing whole fragments (λ state. tree_of state ≡ Some tree)
+argument_complete : (tree : Tree) (fragments : Fragments) → passes_two fragments ≡ false → Read splittings.Nothing whole fragments (λ state. tree_of state ≡ Some tree)
     → (reader : Passing) (before : List Argument) → IsFresh reader before → Passes reader fragments (λ next. arguments_in next ≡ Some (before ++ value tree ∷ []))
 argument_complete tree [] two h reader before f = let e : Some (wants whole) ≡ Some h.state = h.read in let s = some_one _ _ e in let t : tree_of h.state ≡ Some tree = h.after in let u : tree_of (wants whole) ≡ Some tree = ap tree_of s ∙ t in absurd cc
 argument_complete tree (group opener inner closer ∷ rest) two h reader before f = plain_complete tree (group opener inner closer) rest h.state h.read h.after reader before f refl
 argument_complete tree (one token ∷ rest) two h reader before f = go (symbol_or (role_of token))
   where
-    go : (role_of token ≡ symbol) ⊎ (role_of token ≡ symbol → ⊥) → Passes reader (one token ∷ rest) (λ next. arguments_in next ≡ Some (before ++ value tree ∷ []))
+    go : (role_of token ≡ roles.Symbol) ⊎ (role_of token ≡ roles.Symbol → ⊥) → Passes reader (one token ∷ rest) (λ next. arguments_in next ≡ Some (before ++ value tree ∷ []))
     go (inl is) = symbol_complete tree token rest h.state is h.read h.after two reader before f
     go (inr different) = plain_complete tree (one token) rest h.state h.read h.after reader before f (fresh_other (role_of token) before token different)
 
 -- no expression goes on at a comma
-comma_ends : (words : Splitting) (state : State) (token : Token) → role_of token ≡ comma → after_item words state (item_of (one token)) ≡ None
+comma_ends : (words : Splitting) (state : State) (token : Token) → role_of token ≡ roles.Comma → after_item words state (item_of (one token)) ≡ None
 comma_ends words (wants outer) token is = rw is refl
 comma_ends words (counted digits outer) token is = rw is refl
 comma_ends words (has tree outer) token is = rw is refl
 comma_ends words (dotted tree outer) token is = rw is refl
 
-comma_begins : (token : Token) → role_of token ≡ comma → begins_value (one token) ≡ false
+comma_begins : (token : Token) → role_of token ≡ roles.Comma → begins_value (one token) ≡ false
 comma_begins token is = rw is refl
 
-comma_separates : (reader : Passing) (passed : List Argument) (token : Token) → role_of token ≡ comma → arguments_in reader ≡ Some passed → at_separator reader (one token) ≡ Some (passes_next passed)
+comma_separates : (reader : Passing) (passed : List Argument) (token : Token) → role_of token ≡ roles.Comma → arguments_in reader ≡ Some passed → at_separator reader (one token) ≡ Some (passes_next passed)
 comma_separates reader passed token is e = rw (is, e) refl
 
-comma_step : (reader : Passing) (passed : List Argument) (token : Token) → role_of token ≡ comma → arguments_in reader ≡ Some passed → after_argument reader (one token) (item_of (one token)) ≡ Some (passes_next passed)
+comma_step : (reader : Passing) (passed : List Argument) (token : Token) → role_of token ≡ roles.Comma → arguments_in reader ≡ Some passed → after_argument reader (one token) (item_of (one token)) ≡ Some (passes_next passed)
 comma_step nothing_passed passed token is e = absurd cc
 comma_step (passes_next before) passed token is e = absurd cc
 comma_step (symbol_first before first) passed token is e =
     ap (λ (b : Bool). by_symbol b before first (one token) (item_of (one token))) (comma_begins token is)
-    ∙ ap (λ (o : Option State). or_else (option_map (passing before None) o) (at_separator (symbol_first before first) (one token))) (comma_ends nothing (has (literal (literals.Symbol first)) whole) token is)
+    ∙ ap (λ (o : Option State). or_else (option_map (passing before None) o) (at_separator (symbol_first before first) (one token))) (comma_ends splittings.Nothing (has (literal (literals.Symbol first)) whole) token is)
     ∙ comma_separates (symbol_first before first) passed token is e
 comma_step (passing before first state) passed token is e =
-    ap (λ (o : Option State). or_else (option_map (passing before first) o) (at_separator (passing before first state) (one token))) (comma_ends nothing state token is)
+    ap (λ (o : Option State). or_else (option_map (passing before first) o) (at_separator (passing before first state) (one token))) (comma_ends splittings.Nothing state token is)
     ∙ comma_separates (passing before first state) passed token is e
 
 at_end_is : (reader : Passing) (passed : List Argument) → arguments_in reader ≡ Some passed → arguments_at_end reader ≡ Some passed
@@ -376,38 +385,38 @@ complete words sort fragments (vector_leaf w items opener inner closer is h) = �
       after = holds refl;
     }
 complete words sort fragments (bracket_leaf w tree opener inner closer is h) = λ outer.
-    let e = inner_expression inner tree (complete nothing (expression tree) (row inner) h whole tt) in
+    let e = inner_expression inner tree (complete splittings.Nothing (expression tree) (row inner) h whole tt) in
     record { state = has tree outer; read = read_one words (wants outer) (group opener inner closer) (has tree outer) (bracket_reads (bracket_of opener closer) outer tree opener inner is e); after = holds refl }
 complete words sort fragments (begin_leaf w trees opener inner closer is h) = λ outer.
-    let e = begin_read trees opener inner (complete nothing (a_body trees) (row inner) h) in
-    record { state = has (begin_tree opener (body_of trees)) outer; read = read_one words (wants outer) (group opener inner closer) _ (statement_read begin_word outer opener inner closer _ is e); after = holds refl }
+    let e = begin_read trees opener inner (complete splittings.Nothing (a_body trees) (row inner) h) in
+    record { state = has (begin_tree opener (body_of trees)) outer; read = read_one words (wants outer) (group opener inner closer) _ (statement_read keywords.Begin outer opener inner closer _ is e); after = holds refl }
 complete words sort fragments (guarded_leaf w guard test trees opener inner closer left tested right after is parts is_round h k) = λ outer.
-    let t = inner_expression tested test (complete nothing (expression test) (row tested) h whole tt) in
-    let e = guarded_read guard test trees opener inner left tested right after parts is_round t (complete nothing (a_body trees) after k) in
-    record { state = has (guarded guard opener test (body_of trees)) outer; read = read_one words (wants outer) (group opener inner closer) _ (statement_read (guard_word guard) outer opener inner closer _ is e); after = holds refl }
+    let t = inner_expression tested test (complete splittings.Nothing (expression test) (row tested) h whole tt) in
+    let e = guarded_read guard test trees opener inner left tested right after parts is_round t (complete splittings.Nothing (a_body trees) after k) in
+    record { state = has (guarded guard opener test (body_of trees)) outer; read = read_one words (wants outer) (group opener inner closer) _ (statement_read (keywords.Guard guard) outer opener inner closer _ is e); after = holds refl }
 complete words sort fragments (if_leaf w test trees others last opener inner closer left tested right first second is parts is_round h k m) = λ outer.
-    let t = inner_expression tested test (complete nothing (expression test) (row tested) h whole tt) in
-    let e = if_read test trees others last opener inner left tested right first second parts is_round t (complete branches (a_body trees) first k) (complete branches (alternatives others last) second m) in
-    record { state = has (if_tree opener test (body_of trees) (alternatives_of others) last) outer; read = read_one words (wants outer) (group opener inner closer) _ (statement_read if_word outer opener inner closer _ is e); after = holds refl }
+    let t = inner_expression tested test (complete splittings.Nothing (expression test) (row tested) h whole tt) in
+    let e = if_read test trees others last opener inner left tested right first second parts is_round t (complete splittings.Branches (a_body trees) first k) (complete splittings.Branches (alternatives others last) second m) in
+    record { state = has (if_tree opener test (body_of trees) (alternatives_of others) last) outer; read = read_one words (wants outer) (group opener inner closer) _ (statement_read keywords.If outer opener inner closer _ is e); after = holds refl }
 complete words sort fragments (case_leaf w trees last opener inner closer is h) = λ outer.
-    let e = case_read trees last opener inner (complete nothing (arms true trees last) (row inner) h) in
-    record { state = has (case_tree opener (arms_of trees) last) outer; read = read_one words (wants outer) (group opener inner closer) _ (statement_read case_word outer opener inner closer _ is e); after = holds refl }
+    let e = case_read trees last opener inner (complete splittings.Nothing (arms true trees last) (row inner) h) in
+    record { state = has (case_tree opener (arms_of trees) last) outer; read = read_one words (wants outer) (group opener inner closer) _ (statement_read keywords.Case outer opener inner closer _ is e); after = holds refl }
 complete words sort fragments (select_leaf w selected test trees last opener inner closer left within right after is parts is_round h k) = λ outer.
-    let e = select_read selected test trees last opener inner left within right after parts is_round (complete tests (head selected test) (row within) h) (complete nothing (arms false trees last) after k) in
-    record { state = has (select_tree opener selected (maybe_of test) (arms_of trees) last) outer; read = read_one words (wants outer) (group opener inner closer) _ (statement_read select_word outer opener inner closer _ is e); after = holds refl }
+    let e = select_read selected test trees last opener inner left within right after parts is_round (complete splittings.Tests (head selected test) (row within) h) (complete splittings.Nothing (arms false trees last) after k) in
+    record { state = has (select_tree opener selected (maybe_of test) (arms_of trees) last) outer; read = read_one words (wants outer) (group opener inner closer) _ (statement_read keywords.Select outer opener inner closer _ is e); after = holds refl }
 complete words sort fragments (block_leaf w exit trees clauses opener inner closer left within right first second is parts is_round x suits h k) = λ outer.
-    let e = block_read exit trees clauses opener inner left within right first second parts is_round x suits (complete endings (a_body trees) first h) (complete endings (block_clauses clauses) second k) in
-    record { state = has (block_tree opener exit (body_of trees) (block_clauses_of clauses)) outer; read = read_one words (wants outer) (group opener inner closer) _ (statement_read block_word outer opener inner closer _ is e); after = holds refl }
+    let e = block_read exit trees clauses opener inner left within right first second parts is_round x suits (complete splittings.Endings (a_body trees) first h) (complete splittings.Endings (block_clauses clauses) second k) in
+    record { state = has (block_tree opener exit (body_of trees) (block_clauses_of clauses)) outer; read = read_one words (wants outer) (group opener inner closer) _ (statement_read keywords.Block outer opener inner closer _ is e); after = holds refl }
 complete words sort fragments (for_leaf w clauses stop trees last opener inner closer left within right first second is parts is_round h k m) = λ outer.
-    let e = for_read clauses stop trees last opener inner left within right first second parts is_round (complete steps (for_head clauses stop) (row within) h) (complete last_part (a_body trees) first k) (complete last_part (ending_part last) second m) in
-    record { state = has (for_tree opener (for_clauses_of clauses) (stop_of stop) (body_of trees) last) outer; read = read_one words (wants outer) (group opener inner closer) _ (statement_read for_word outer opener inner closer _ is e); after = holds refl }
+    let e = for_read clauses stop trees last opener inner left within right first second parts is_round (complete splittings.Steps (for_head clauses stop) (row within) h) (complete splittings.LastPart (a_body trees) first k) (complete splittings.LastPart (ending_part last) second m) in
+    record { state = has (for_tree opener (for_clauses_of clauses) (stop_of stop) (body_of trees) last) outer; read = read_one words (wants outer) (group opener inner closer) _ (statement_read keywords.For outer opener inner closer _ is e); after = holds refl }
 complete words sort fragments (method_leaf w found results trees opener inner closer is h) = λ outer.
-    let e = method_read found results trees opener inner (complete nothing (signature found results trees) (row inner) h) in
-    record { state = has (method_tree opener (parameters_of found results) (body_of trees)) outer; read = read_one words (wants outer) (group opener inner closer) _ (statement_read method_word outer opener inner closer _ is e); after = holds refl }
+    let e = method_read found results trees opener inner (complete splittings.Nothing (signature found results trees) (row inner) h) in
+    record { state = has (method_tree opener (parameters_of found results) (body_of trees)) outer; read = read_one words (wants outer) (group opener inner closer) _ (statement_read keywords.Method outer opener inner closer _ is e); after = holds refl }
 complete words sort fragments (leaf_operand w tree all h) = λ outer. complete words (leaf tree) all h outer
 complete words sort fragments (call_operand w function passed before all opener inner closer parts is h k) = λ outer.
     let first = complete words (operand function) before h outer in
-    let e = inner_arguments inner passed (complete nothing (arguments passed) (row inner) k) in
+    let e = inner_arguments inner passed (complete splittings.Nothing (arguments passed) (row inner) k) in
     let step : after_item words first.state (item_of (group opener inner closer)) ≡ Some (called (function, outer) passed) =
     behind_group first.state function outer before opener (bracket_of opener closer) (tree_inside (bracket_of opener closer) opener inner (items_in inner)) (passed_in inner) first.after
     ∙ ap (λ (b : Bracket). group_behind (function, outer) opener b (tree_inside b opener inner (items_in inner)) (passed_in inner)) is ∙ ap (λ (o : Option (List Argument)). option_map (called (function, outer)) o) e in
@@ -418,7 +427,7 @@ complete words sort fragments (call_operand w function passed before all opener 
     }
 complete words sort fragments (element_operand w object index before all opener inner closer parts is h k) = λ outer.
     let first = complete words (operand object) before h outer in
-    let e = inner_expression inner index (complete nothing (expression index) (row inner) k whole tt) in
+    let e = inner_expression inner index (complete splittings.Nothing (expression index) (row inner) k whole tt) in
     let step : after_item words first.state (item_of (group opener inner closer)) ≡ Some (indexed (object, outer) opener index) =
     behind_group first.state object outer before opener (bracket_of opener closer) (tree_inside (bracket_of opener closer) opener inner (items_in inner)) (passed_in inner) first.after
     ∙ ap (λ (b : Bracket). group_behind (object, outer) opener b (tree_inside b opener inner (items_in inner)) (passed_in inner)) is ∙ ap (λ (o : Option Tree). option_map (indexed (object, outer) opener) o) e in
@@ -484,13 +493,13 @@ complete words sort fragments (assignment_expression w place assigned_tree sign 
       after = second.after;
     }
 complete words sort fragments (keyword_argument token tree after is h) = λ reader before fresh_reader.
-    keyword_complete token tree after is (complete nothing (expression tree) after h whole tt) reader before fresh_reader
+    keyword_complete token tree after is (complete splittings.Nothing (expression tree) after h whole tt) reader before fresh_reader
 complete words sort fragments (value_argument tree all two h) = λ reader before fresh_reader.
-    argument_complete tree all two (complete nothing (expression tree) all h whole tt) reader before fresh_reader
-complete words sort fragments (one_argument passed all h) = complete nothing (argument passed) all h nothing_passed [] first_argument
+    argument_complete tree all two (complete splittings.Nothing (expression tree) all h whole tt) reader before fresh_reader
+complete words sort fragments (one_argument passed all h) = complete splittings.Nothing (argument passed) all h nothing_passed [] first_argument
 complete words sort fragments (more_arguments passed last separator before after all parts is h k) =
-    let first = complete nothing (some_arguments passed) before h in
-    let second = complete nothing (argument last) after k (passes_next passed) passed (next_argument passed) in
+    let first = complete splittings.Nothing (some_arguments passed) before h in
+    let second = complete splittings.Nothing (argument last) after k (passes_next passed) passed (next_argument passed) in
     let step = comma_step first.next passed separator is first.after in
     record {
       next = second.next;
@@ -499,7 +508,7 @@ complete words sort fragments (more_arguments passed last separator before after
     }
 complete words sort fragments no_arguments = record { next = nothing_passed; read = refl; after = refl }
 complete words sort fragments (all_arguments passed all h) =
-    let first = complete nothing (some_arguments passed) all h in
+    let first = complete splittings.Nothing (some_arguments passed) all h in
     record { next = first.next; read = first.read; after = at_end_is first.next passed first.after }
 complete words sort fragments (by_expression w tree all h) = let r = complete words (expression tree) all h whole tt in expression_item_read words tree all r.state r.read r.after
 complete words sort fragments (by_let w word equals target assigned_tree before after all parts role is t plainly h) =
@@ -513,73 +522,73 @@ complete words sort fragments (separator_body w separator is) = separator_body_r
 complete words sort fragments (items_body w trees all h) = items_body_read words trees all (complete words (some_items trees) all h)
 complete words sort fragments (ended_body w trees separator before all parts is h) = ended_body_read words trees separator before all parts is (complete words (some_items trees) before h)
 complete words sort fragments no_alternatives = no_alternatives_read
-complete words sort fragments (by_else trees word after is h) = else_read trees word after is (complete branches (a_body trees) after h)
+complete words sort fragments (by_else trees word after is h) = else_read trees word after is (complete splittings.Branches (a_body trees) after h)
 complete words sort fragments (more_alternatives test trees others last word left tested right first second all parts is is_round h k m) =
-    let t = inner_expression tested test (complete nothing (expression test) (row tested) h whole tt) in
-    more_alternatives_read test trees others last word left tested right first second all parts is is_round t (complete branches (a_body trees) first k) (complete branches (alternatives others last) second m)
-complete words sort fragments (one_test tree all h) = let r = complete nothing (expression tree) all h whole tt in one_test_read tree all r.state r.read r.after
+    let t = inner_expression tested test (complete splittings.Nothing (expression test) (row tested) h whole tt) in
+    more_alternatives_read test trees others last word left tested right first second all parts is is_round t (complete splittings.Branches (a_body trees) first k) (complete splittings.Branches (alternatives others last) second m)
+complete words sort fragments (one_test tree all h) = let r = complete splittings.Nothing (expression tree) all h whole tt in one_test_read tree all r.state r.read r.after
 complete words sort fragments (more_tests tree others separator before after all parts is h k) =
-    let r = complete nothing (expression tree) before h whole tt in more_tests_read tree others separator before after all parts is r.state r.read r.after (complete nothing (some_tests others) after k)
+    let r = complete splittings.Nothing (expression tree) before h whole tt in more_tests_read tree others separator before after all parts is r.state r.read r.after (complete splittings.Nothing (some_tests others) after k)
 complete words sort fragments empty_open = inl (refl, refl)
-complete words sort fragments (items_open trees all h) = inr (complete nothing (some_items trees) all h)
-complete words sort fragments (last_arm single trees entries sign before after all parts is fit h k) = last_arm_read single trees entries sign before after all parts is fit (complete nothing (some_tests trees) before h) (complete nothing (open_body entries) after k)
+complete words sort fragments (items_open trees all h) = inr (complete splittings.Nothing (some_items trees) all h)
+complete words sort fragments (last_arm single trees entries sign before after all parts is fit h k) = last_arm_read single trees entries sign before after all parts is fit (complete splittings.Nothing (some_tests trees) before h) (complete splittings.Nothing (open_body entries) after k)
 complete words sort fragments (more_arms single trees entries others last sign separator before middle after all parts is semi fit h k m) =
-    more_arms_read single trees entries others last sign separator before middle after all parts is semi fit (complete nothing (some_tests trees) before h) (complete nothing (open_body entries) middle k) (complete nothing (choices single others last) after m)
-complete words sort fragments (last_choice single entries word after is h) = last_choice_read single entries word after is (complete nothing (open_body entries) after h)
-complete words sort fragments (last_choice_arrow single entries word sign after is also h) = last_choice_arrow_read single entries word sign after is also (complete nothing (open_body entries) after h)
+    more_arms_read single trees entries others last sign separator before middle after all parts is semi fit (complete splittings.Nothing (some_tests trees) before h) (complete splittings.Nothing (open_body entries) middle k) (complete splittings.Nothing (choices single others last) after m)
+complete words sort fragments (last_choice single entries word after is h) = last_choice_read single entries word after is (complete splittings.Nothing (open_body entries) after h)
+complete words sort fragments (last_choice_arrow single entries word sign after is also h) = last_choice_arrow_read single entries word sign after is also (complete splittings.Nothing (open_body entries) after h)
 complete words sort fragments (no_arms single) = refl
-complete words sort fragments (some_arms single trees last all h) = some_arms_read single trees last all (complete nothing (choices single trees last) all h)
-complete words sort fragments (ended_arms single trees last separator before all parts is h) = ended_arms_read single trees last separator before all parts is (complete nothing (choices single trees last) before h)
-complete words sort fragments (by_identity selected all h) = let r = complete tests (expression selected) all h whole tt in identity_read selected all r.state r.read r.after
+complete words sort fragments (some_arms single trees last all h) = some_arms_read single trees last all (complete splittings.Nothing (choices single trees last) all h)
+complete words sort fragments (ended_arms single trees last separator before all parts is h) = ended_arms_read single trees last separator before all parts is (complete splittings.Nothing (choices single trees last) before h)
+complete words sort fragments (by_identity selected all h) = let r = complete splittings.Tests (expression selected) all h whole tt in identity_read selected all r.state r.read r.after
 complete words sort fragments (by_test selected test word before after all parts is h k) =
-    let r = complete tests (expression selected) before h whole tt in
-    let t = complete tests (expression test) after k whole tt in test_read selected test word before after all parts is r.state t.state r.read r.after t.read t.after
+    let r = complete splittings.Tests (expression selected) before h whole tt in
+    let t = complete splittings.Tests (expression test) after k whole tt in test_read selected test word before after all parts is r.state t.state r.read r.after t.read t.after
 complete words sort fragments no_block_clause = no_block_clause_read
-complete words sort fragments (by_afterwards trees others word first second all parts is h k) = afterwards_read trees others word first second all parts is (complete endings (a_body trees) first h) (complete endings (block_clauses others) second k)
-complete words sort fragments (by_cleanup trees others word first second all parts is h k) = cleanup_read trees others word first second all parts is (complete endings (a_body trees) first h) (complete endings (block_clauses others) second k)
+complete words sort fragments (by_afterwards trees others word first second all parts is h k) = afterwards_read trees others word first second all parts is (complete splittings.Endings (a_body trees) first h) (complete splittings.Endings (block_clauses others) second k)
+complete words sort fragments (by_cleanup trees others word first second all parts is h k) = cleanup_read trees others word first second all parts is (complete splittings.Endings (a_body trees) first h) (complete splittings.Endings (block_clauses others) second k)
 complete words sort fragments (by_exception variable condition trees others word left within right first second all parts is is_round c h k) =
-    exception_read variable condition trees others word left within right first second all parts is is_round c (complete endings (a_body trees) first h) (complete endings (block_clauses others) second k)
+    exception_read variable condition trees others word left within right first second all parts is is_round c (complete splittings.Endings (a_body trees) first h) (complete splittings.Endings (block_clauses others) second k)
 complete words sort fragments (by_then variable first next equals word before middle after all parts is role v plainly h k) =
-    let r = complete steps (expression first) middle h whole tt in
-    let t = complete steps (expression next) after k whole tt in then_read variable first next equals word before middle after all parts is role v plainly (step_expression first middle r.state r.read r.after) (step_expression next after t.state t.read t.after)
+    let r = complete splittings.Steps (expression first) middle h whole tt in
+    let t = complete splittings.Steps (expression next) after k whole tt in then_read variable first next equals word before middle after all parts is role v plainly (step_expression first middle r.state r.read r.after) (step_expression next after t.state t.read t.after)
 complete words sort fragments (by_in variable collection word before after all parts is v plainly h) =
-    let r = complete steps (expression collection) after h whole tt in in_read variable collection word before after all parts is v plainly (step_expression collection after r.state r.read r.after)
+    let r = complete splittings.Steps (expression collection) after h whole tt in in_read variable collection word before after all parts is v plainly (step_expression collection after r.state r.read r.after)
 complete words sort fragments (by_from variable start limit step word before middle after all parts is v plainly h k) =
-    let r = complete steps (expression start) middle h whole tt in from_read variable start limit step word before middle after all parts is v plainly (step_expression start middle r.state r.read r.after) (complete steps (range limit step) after k)
+    let r = complete splittings.Steps (expression start) middle h whole tt in from_read variable start limit step word before middle after all parts is v plainly (step_expression start middle r.state r.read r.after) (complete splittings.Steps (range limit step) after k)
 complete words sort fragments no_range = no_range_read
-complete words sort fragments (step_range tree word after is h) = let r = complete steps (expression tree) after h whole tt in step_range_read tree word after is (step_expression tree after r.state r.read r.after)
+complete words sort fragments (step_range tree word after is h) = let r = complete splittings.Steps (expression tree) after h whole tt in step_range_read tree word after is (step_expression tree after r.state r.read r.after)
 complete words sort fragments (limit_range bound step word first second all parts is h k) =
-    let r = complete steps (expression bound) first h whole tt in limit_range_read bound step word first second all parts is (step_expression bound first r.state r.read r.after) (complete steps (range no_limit step) second k)
-complete words sort fragments (last_clause tree all h) = last_clause_read tree all (complete steps (for_clause tree) all h)
-complete words sort fragments (only_stop word test after is h) = let r = complete steps (expression test) after h whole tt in only_stop_read word test after is (step_expression test after r.state r.read r.after)
-complete words sort fragments (more_clauses tree others stop separator before after all parts is h k) = more_clauses_read tree others stop separator before after all parts is (complete steps (for_clause tree) before h) (complete steps (for_clauses others stop) after k)
+    let r = complete splittings.Steps (expression bound) first h whole tt in limit_range_read bound step word first second all parts is (step_expression bound first r.state r.read r.after) (complete splittings.Steps (range no_limit step) second k)
+complete words sort fragments (last_clause tree all h) = last_clause_read tree all (complete splittings.Steps (for_clause tree) all h)
+complete words sort fragments (only_stop word test after is h) = let r = complete splittings.Steps (expression test) after h whole tt in only_stop_read word test after is (step_expression test after r.state r.read r.after)
+complete words sort fragments (more_clauses tree others stop separator before after all parts is h k) = more_clauses_read tree others stop separator before after all parts is (complete splittings.Steps (for_clause tree) before h) (complete splittings.Steps (for_clauses others stop) after k)
 complete words sort fragments empty_head = refl
-complete words sort fragments (some_clauses trees stop all h) = some_clauses_read trees stop all (complete steps (for_clauses trees stop) all h)
+complete words sort fragments (some_clauses trees stop all h) = some_clauses_read trees stop all (complete splittings.Steps (for_clauses trees stop) all h)
 complete words sort fragments no_finally = no_finally_read
-complete words sort fragments (by_finally trees word after is h) = finally_read trees word after is (complete last_part (a_body trees) after h)
+complete words sort fragments (by_finally trees word after is h) = finally_read trees word after is (complete splittings.LastPart (a_body trees) after h)
 complete words sort fragments no_initial = no_initial_read
-complete words sort fragments (by_initial tree equals after is h) = let r = complete nothing (expression tree) after h whole tt in initial_read tree equals after is r.state r.read r.after
-complete words sort fragments (plain_key variable default before after all parts v h) = plain_key_read variable default before after all parts v (complete nothing (initial default) after h)
-complete words sort fragments (named_key token variable default before after all parts is v h) = named_key_read token variable default before after all parts is v (complete nothing (initial default) after h)
+complete words sort fragments (by_initial tree equals after is h) = let r = complete splittings.Nothing (expression tree) after h whole tt in initial_read tree equals after is r.state r.read r.after
+complete words sort fragments (plain_key variable default before after all parts v h) = plain_key_read variable default before after all parts v (complete splittings.Nothing (initial default) after h)
+complete words sort fragments (named_key token variable default before after all parts is v h) = named_key_read token variable default before after all parts is v (complete splittings.Nothing (initial default) after h)
 complete words sort fragments no_more_keys = no_more_keys_read
 complete words sort fragments (all_keys separator mark is marks) = all_keys_read separator mark is marks
-complete words sort fragments (key_and_more tree others takes_all separator first second all parts is h k) = key_and_more_read tree others takes_all separator first second all parts is (complete nothing (key tree) first h) (complete nothing (more_keys others takes_all) second k)
+complete words sort fragments (key_and_more tree others takes_all separator first second all parts is h k) = key_and_more_read tree others takes_all separator first second all parts is (complete splittings.Nothing (key tree) first h) (complete splittings.Nothing (more_keys others takes_all) second k)
 complete words sort fragments (last_required required all is) = last_required_read required all is
-complete words sort fragments (more_required required found separator before after all parts role is h) = more_required_read required found separator before after all parts role is (complete nothing (listed found) after h)
+complete words sort fragments (more_required required found separator before after all parts role is h) = more_required_read required found separator before after all parts role is (complete splittings.Nothing (listed found) after h)
 complete words sort fragments (last_next mark token marks is) = last_next_read mark token marks is
-complete words sort fragments (more_next mark token separator rest keys after marks is role h) = more_next_read mark token separator rest keys after marks is role (complete nothing (listed (list_of [] None rest keys)) after h)
+complete words sort fragments (more_next mark token separator rest keys after marks is role h) = more_next_read mark token separator rest keys after marks is role (complete splittings.Nothing (listed (list_of [] None rest keys)) after h)
 complete words sort fragments (last_rest mark token marks is) = last_rest_read mark token marks is
-complete words sort fragments (more_rest mark token separator keys after marks is role h) = more_rest_read mark token separator keys after marks is role (complete nothing (listed (list_of [] None None keys)) after h)
-complete words sort fragments (bare_keys mark takes_all after marks h) = bare_keys_read mark takes_all after marks (complete nothing (more_keys [] takes_all) after h)
-complete words sort fragments (first_key mark tree others takes_all first second all parts marks h k) = first_key_read mark tree others takes_all first second all parts marks (complete nothing (key tree) first h) (complete nothing (more_keys others takes_all) second k)
+complete words sort fragments (more_rest mark token separator keys after marks is role h) = more_rest_read mark token separator keys after marks is role (complete splittings.Nothing (listed (list_of [] None None keys)) after h)
+complete words sort fragments (bare_keys mark takes_all after marks h) = bare_keys_read mark takes_all after marks (complete splittings.Nothing (more_keys [] takes_all) after h)
+complete words sort fragments (first_key mark tree others takes_all first second all parts marks h k) = first_key_read mark tree others takes_all first second all parts marks (complete splittings.Nothing (key tree) first h) (complete splittings.Nothing (more_keys others takes_all) second k)
 complete words sort fragments empty_brackets = refl
-complete words sort fragments (some_listed found all h) = some_listed_read found all (complete nothing (listed found) all h)
+complete words sort fragments (some_listed found all h) = some_listed_read found all (complete splittings.Nothing (listed found) all h)
 complete words sort fragments (by_signature found results trees left within right given end after all parts is r n a h k) =
-    signature_read found results trees left within right given end after all parts is r n a (complete nothing (brackets found) (row within) h) (complete nothing (a_body trees) after k)
-complete words sort fragments (by_local w trees word after is h) = local_item_read words trees word after is (complete nothing (local_methods trees) after h)
+    signature_read found results trees left within right given end after all parts is r n a (complete splittings.Nothing (brackets found) (row within) h) (complete splittings.Nothing (a_body trees) after k)
+complete words sort fragments (by_local w trees word after is h) = local_item_read words trees word after is (complete splittings.Nothing (local_methods trees) after h)
 complete words sort fragments (last_method found results trees opener token inner closer after is parts role h) =
-    let e = named_read found results trees token inner after parts role (complete nothing (signature found results trees) after h) in
+    let e = named_read found results trees token inner after parts role (complete splittings.Nothing (signature found results trees) after h) in
     last_method_read opener inner closer _ (method_alone_read opener inner closer (named_of token (method_of found results trees)) is e)
 complete words sort fragments (more_methods found results trees others opener token inner closer separator after behind is parts role comma_role h k) =
-    let e = named_read found results trees token inner after parts role (complete nothing (signature found results trees) after h) in
-    more_methods_read opener inner closer _ others separator behind comma_role (method_alone_read opener inner closer (named_of token (method_of found results trees)) is e) (complete nothing (local_methods others) behind k)
+    let e = named_read found results trees token inner after parts role (complete splittings.Nothing (signature found results trees) after h) in
+    more_methods_read opener inner closer _ others separator behind comma_role (method_alone_read opener inner closer (named_of token (method_of found results trees)) is e) (complete splittings.Nothing (local_methods others) behind k)

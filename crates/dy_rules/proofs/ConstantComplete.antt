@@ -3,11 +3,15 @@ use Rattle.std.proofs.Common.{◌≡◌, List, [], ◌∷◌, ◌++◌, Option, 
 use Rattle.dy_tree.specs.declared.token.Token.{Token}
 use Rattle.dy_tree.specs.declared.types.LiteralForm.{LiteralForm}
 use Rattle.dy_tree.specs.Fragments.{SeenFragment, one, group, SeenFragments, row}
-use Rattle.dy_rules.specs.Roles.{Role, minus, dot, comma, role_of, Bracket, sharp_round, sharp_square, bracket_of}
+use Rattle.dy_rules.specs.Roles.{role_of, bracket_of}
 use Rattle.dy_rules.specs.ConstantTrees.{Constant, literal_item, list_item, vector_item, constants_of, tail_of}
 use Rattle.dy_rules.specs.Constants.{token_literal, IsLiteral, one_token, negative_integer, ConstantSort, constant, some_constants, in_list, in_vector, IsConstant, literal_constant, list_constant, vector_constant, one_constant, more_constants, empty_list, proper_list, improper_list, empty_vector, full_vector}
 use Rattle.dy_rules.specs.ConstantReading.{Element, comes, after_sign, known, Listing, started, element, ending, inside, list_found, vector_found, ConstantItem, token_of, known_literal, at_element, group_element, element_step, listing_step, constant_item, listed, list_in, vector_in}
 use Rattle.dy_tree.specs.Fragments.{pack}
+use Rattle.dy_tree.specs.declared.roles.Role.{Role}
+use Rattle.dy_tree.specs.declared.roles.Role.TheVariants as roles
+use Rattle.dy_tree.specs.declared.brackets.Bracket.{Bracket}
+use Rattle.dy_tree.specs.declared.brackets.Bracket.TheVariants as brackets
 use Rattle.dy_rules.proofs.Lists.{pack_row, goes_on, some_one}
 
 abbrev Fragments : Type 0
@@ -72,27 +76,27 @@ CompleteConstant (in_list items last) fragments = option_and_then list_found (li
 CompleteConstant (in_vector items) fragments = option_and_then vector_found (lists started fragments) ≡ Some items
 
 literal_read : (role : Role) (token : Token) (form : LiteralForm) → token_literal role token ≡ Some form → at_element role token ≡ Some (known_literal form)
-literal_read minus token form e = absurd cc
+literal_read roles.Minus token form e = absurd cc
 literal_read role token form e = ap (λ (o : Option LiteralForm). option_map known_literal o) e
 
 literal_elements : (form : LiteralForm) (fragments : Fragments) → IsLiteral form fragments → elements comes fragments ≡ Some (known (literal_item form))
 literal_elements form fragments (one_token token found e) = rw (literal_read (role_of token) token form e) refl
 literal_elements form fragments (negative_integer sign digits is_minus is) = rw (is_minus, is) refl
 
-list_element : (opener : Token) (found : Option Listing) (items : List Constant) (last : Option Constant) (kind : Bracket) → kind ≡ sharp_round → option_and_then list_found found ≡ Some (inside items last)
+list_element : (opener : Token) (found : Option Listing) (items : List Constant) (last : Option Constant) (kind : Bracket) → kind ≡ brackets.SharpRound → option_and_then list_found found ≡ Some (inside items last)
     → group_element kind opener found ≡ Some (known (list_item opener (constants_of items) (tail_of last)))
 list_element opener found items last kind is e = rw (is, e) refl
 
-vector_element : (opener : Token) (found : Option Listing) (items : List Constant) (kind : Bracket) → kind ≡ sharp_square → option_and_then vector_found found ≡ Some items → group_element kind opener found ≡ Some (known (vector_item opener (constants_of items)))
+vector_element : (opener : Token) (found : Option Listing) (items : List Constant) (kind : Bracket) → kind ≡ brackets.SharpSquare → option_and_then vector_found found ≡ Some items → group_element kind opener found ≡ Some (known (vector_item opener (constants_of items)))
 vector_element opener found items kind is e = rw (is, e) refl
 
 one_element : (state : Element) (fragment : SeenFragment) (next : Element) → element_step state (constant_item fragment) ≡ Some next → elements state (fragment ∷ []) ≡ Some next
 one_element state fragment next e = rw e refl
 
-comma_read : (items : List Constant) (value : Constant) (separator : Token) → role_of separator ≡ comma → listing_step (element items (known value)) (token_of separator) ≡ Some (element (items ++ value ∷ []) comes)
+comma_read : (items : List Constant) (value : Constant) (separator : Token) → role_of separator ≡ roles.Comma → listing_step (element items (known value)) (token_of separator) ≡ Some (element (items ++ value ∷ []) comes)
 comma_read items value separator is = rw is refl
 
-dot_read : (items : List Constant) (value : Constant) (point : Token) → role_of point ≡ dot → listing_step (element items (known value)) (token_of point) ≡ Some (ending (items ++ value ∷ []) comes)
+dot_read : (items : List Constant) (value : Constant) (point : Token) → role_of point ≡ roles.Dot → listing_step (element items (known value)) (token_of point) ≡ Some (ending (items ++ value ∷ []) comes)
 dot_read items value point is = rw is refl
 
 pub constant_complete : (sort : ConstantSort) (fragments : List SeenFragment) → IsConstant sort fragments → CompleteConstant sort fragments

@@ -4,7 +4,11 @@ use Rattle.std.proofs.lemmas.List.{append-nil}
 use Rattle.dy_tree.specs.declared.token.Token.{Token}
 use Rattle.dy_tree.specs.declared.types.LiteralForm.{LiteralForm}
 use Rattle.dy_tree.specs.Fragments.{SeenFragment, one, group, SeenFragments, no_fragment, fragment_and, row}
-use Rattle.dy_rules.specs.Roles.{Role, integer, character, string, boolean, symbol, minus, dot, comma, role_of, negative, Bracket, sharp_round, sharp_square, bracket_of}
+use Rattle.dy_tree.specs.declared.roles.Role.{Role}
+use Rattle.dy_tree.specs.declared.roles.Role.TheVariants as roles
+use Rattle.dy_tree.specs.declared.brackets.Bracket.{Bracket}
+use Rattle.dy_tree.specs.declared.brackets.Bracket.TheVariants as brackets
+use Rattle.dy_rules.specs.Roles.{role_of, negative, bracket_of}
 use Rattle.dy_rules.specs.ConstantTrees.{Constant}
 use Rattle.dy_rules.specs.Constants.{token_literal, one_token, negative_integer, constant, some_constants, in_list, in_vector, IsConstant, literal_constant, list_constant, vector_constant, one_constant, more_constants, empty_list, proper_list, improper_list, empty_vector, full_vector}
 use Rattle.dy_rules.specs.ConstantReading.{Element, comes, after_sign, known, Listing, started, element, ending, Inside, list_found, vector_found, ConstantItem, token_of, group_of, known_literal, known_list, known_vector, at_element, at_digits, group_element, element_step, behind_constant, listing_step, constant_item, listed, list_in, vector_in}
@@ -15,11 +19,11 @@ Fragments = List SeenFragment
 -- what stands in front of an item
 pub data Before : List Constant → List SeenFragment → Type 0 where
   before_first : Before [] []
-  before_next : (items : List Constant) (first all : List SeenFragment) (separator : Token) → all ≡ first ++ one separator ∷ [] → role_of separator ≡ comma → IsConstant (some_constants items) first → Before items all
+  before_next : (items : List Constant) (first all : List SeenFragment) (separator : Token) → all ≡ first ++ one separator ∷ [] → role_of separator ≡ roles.Comma → IsConstant (some_constants items) first → Before items all
 
 abbrev pub Known : Element → Fragments → Type 0
 Known comes middle = middle ≡ []
-Known (after_sign sign) middle = (middle ≡ one sign ∷ []) × (role_of sign ≡ minus)
+Known (after_sign sign) middle = (middle ≡ one sign ∷ []) × (role_of sign ≡ roles.Minus)
 Known (known value) middle = IsConstant (constant value) middle
 
 abbrev pub KnownIf : Option Element → Fragments → Type 0
@@ -29,7 +33,7 @@ KnownIf (Some state) middle = Known state middle
 abbrev pub Listed : Listing → Fragments → Type 0
 Listed started all = all ≡ []
 Listed (element items state) all = (before : Fragments) × (middle : Fragments) × (all ≡ before ++ middle) × Before items before × Known state middle
-Listed (ending items state) all = (first : Fragments) × (point : Token) × (middle : Fragments) × (all ≡ first ++ one point ∷ middle) × (role_of point ≡ dot) × IsConstant (some_constants items) first × Known state middle
+Listed (ending items state) all = (first : Fragments) × (point : Token) × (middle : Fragments) × (all ≡ first ++ one point ∷ middle) × (role_of point ≡ roles.Dot) × IsConstant (some_constants items) first × Known state middle
 
 abbrev pub ListedIf : Option Listing → Fragments → Type 0
 ListedIf None all = Unit {0}
@@ -76,29 +80,29 @@ literal_known token None e = tt
 literal_known token (Some form) e = literal_constant form (one token ∷ []) (one_token token form e)
 
 at_element_sound : (role : Role) (token : Token) → role_of token ≡ role → KnownIf (at_element role token) (one token ∷ [])
-at_element_sound minus token is = (refl, is)
-at_element_sound integer token is = literal_known token (token_literal integer token) (rw is refl)
-at_element_sound character token is = literal_known token (token_literal character token) (rw is refl)
-at_element_sound string token is = literal_known token (token_literal string token) (rw is refl)
-at_element_sound boolean token is = literal_known token (token_literal boolean token) (rw is refl)
-at_element_sound symbol token is = literal_known token (token_literal symbol token) (rw is refl)
+at_element_sound roles.Minus token is = (refl, is)
+at_element_sound roles.Integer token is = literal_known token (token_literal roles.Integer token) (rw is refl)
+at_element_sound roles.Character token is = literal_known token (token_literal roles.Character token) (rw is refl)
+at_element_sound roles.Text token is = literal_known token (token_literal roles.Text token) (rw is refl)
+at_element_sound roles.Boolean token is = literal_known token (token_literal roles.Boolean token) (rw is refl)
+at_element_sound roles.Symbol token is = literal_known token (token_literal roles.Symbol token) (rw is refl)
 at_element_sound role token is = tt
 
-at_digits_sound : (role : Role) (sign token : Token) → role_of token ≡ role → role_of sign ≡ minus → KnownIf (at_digits role sign token) (one sign ∷ one token ∷ [])
-at_digits_sound integer sign token is m = literal_constant (negative sign token) (one sign ∷ one token ∷ []) (negative_integer sign token m is)
+at_digits_sound : (role : Role) (sign token : Token) → role_of token ≡ role → role_of sign ≡ roles.Minus → KnownIf (at_digits role sign token) (one sign ∷ one token ∷ [])
+at_digits_sound roles.Integer sign token is m = literal_constant (negative sign token) (one sign ∷ one token ∷ []) (negative_integer sign token m is)
 at_digits_sound role sign token is m = tt
 
-known_lists : (found : Option Inside) (opener : Token) (inner : SeenFragments) (closer : Token) → bracket_of opener closer ≡ sharp_round → InList found (row inner) → KnownIf (option_map (known_list opener) found) (group opener inner closer ∷ [])
+known_lists : (found : Option Inside) (opener : Token) (inner : SeenFragments) (closer : Token) → bracket_of opener closer ≡ brackets.SharpRound → InList found (row inner) → KnownIf (option_map (known_list opener) found) (group opener inner closer ∷ [])
 known_lists None opener inner closer is h = tt
 known_lists (Some found) opener inner closer is h = list_constant found.items found.last opener inner closer is h
 
-known_vectors : (found : Option (List Constant)) (opener : Token) (inner : SeenFragments) (closer : Token) → bracket_of opener closer ≡ sharp_square → InVector found (row inner) → KnownIf (option_map (known_vector opener) found) (group opener inner closer ∷ [])
+known_vectors : (found : Option (List Constant)) (opener : Token) (inner : SeenFragments) (closer : Token) → bracket_of opener closer ≡ brackets.SharpSquare → InVector found (row inner) → KnownIf (option_map (known_vector opener) found) (group opener inner closer ∷ [])
 known_vectors None opener inner closer is h = tt
 known_vectors (Some items) opener inner closer is h = vector_constant items opener inner closer is h
 
 group_known : (kind : Bracket) (found : Option Listing) (opener : Token) (inner : SeenFragments) (closer : Token) → bracket_of opener closer ≡ kind → ListedIf found (row inner) → KnownIf (group_element kind opener found) (group opener inner closer ∷ [])
-group_known sharp_round found opener inner closer is h = known_lists (option_and_then list_found found) opener inner closer is (lists_if found (row inner) h)
-group_known sharp_square found opener inner closer is h = known_vectors (option_and_then vector_found found) opener inner closer is (vectors_if found (row inner) h)
+group_known brackets.SharpRound found opener inner closer is h = known_lists (option_and_then list_found found) opener inner closer is (lists_if found (row inner) h)
+group_known brackets.SharpSquare found opener inner closer is h = known_vectors (option_and_then vector_found found) opener inner closer is (vectors_if found (row inner) h)
 group_known kind found opener inner closer is h = tt
 
 -- what follows of the fragment, by itself
@@ -119,13 +123,13 @@ element_if : (items : List Constant) (found : Option Element) (before middle : F
 element_if items None before middle b h = tt
 element_if items (Some state) before middle b h = (before, middle, refl, b, h)
 
-ending_if : (items : List Constant) (found : Option Element) (first : Fragments) (point : Token) (middle : Fragments) → role_of point ≡ dot → IsConstant (some_constants items) first → KnownIf found middle → ListedIf (option_map (ending items) found) (first ++ one point ∷ middle)
+ending_if : (items : List Constant) (found : Option Element) (first : Fragments) (point : Token) (middle : Fragments) → role_of point ≡ roles.Dot → IsConstant (some_constants items) first → KnownIf found middle → ListedIf (option_map (ending items) found) (first ++ one point ∷ middle)
 ending_if items None first point middle is b h = tt
 ending_if items (Some state) first point middle is b h = (first, point, middle, refl, is, b, h)
 
 behind_sound : (role : Role) (items : List Constant) (token : Token) (all : Fragments) → role_of token ≡ role → IsConstant (some_constants items) all → ListedIf (behind_constant role items) (all ++ one token ∷ [])
-behind_sound comma items token all is h = (all ++ one token ∷ [], [], sym (append-nil (all ++ one token ∷ [])), before_next items all (all ++ one token ∷ []) token refl is h, refl)
-behind_sound dot items token all is h = (all, token, [], refl, is, h, refl)
+behind_sound roles.Comma items token all is h = (all ++ one token ∷ [], [], sym (append-nil (all ++ one token ∷ [])), before_next items all (all ++ one token ∷ []) token refl is h, refl)
+behind_sound roles.Dot items token all is h = (all, token, [], refl, is, h, refl)
 behind_sound role items token all is h = tt
 
 moved : (before middle all : Fragments) (last : SeenFragment) → all ≡ before ++ middle → before ++ (middle ++ last ∷ []) ≡ all ++ last ∷ []

@@ -2,9 +2,12 @@
 use Rattle.std.proofs.Common.{◌≡◌, List, [], ◌∷◌, Option, Some, None, option_map, refl, subst}
 use Rattle.dy_tree.specs.declared.token.Token.{Token}
 use Rattle.dy_tree.specs.Fragments.{SeenFragment, one, group, SeenFragments, no_fragment, fragment_and, row}
+use Rattle.dy_tree.specs.declared.brackets.Bracket.{Bracket}
+use Rattle.dy_tree.specs.declared.brackets.Bracket.TheVariants as enclosures
+use Rattle.dy_tree.specs.declared.splitters.Splitting.TheVariants as splittings
 use Rattle.dy_rules.specs.ConstantTrees.{Constant}
 use Rattle.dy_rules.specs.Trees.{Tree}
-use Rattle.dy_rules.specs.Roles.{nothing, Bracket, round, square, hidden, sharp_round, sharp_square, statement, special, bracket_of, tests, steps}
+use Rattle.dy_rules.specs.Roles.{bracket_of}
 use Rattle.dy_rules.specs.ConstantReading.{Inside, list_in, vector_in}
 use Rattle.dy_rules.specs.Productions.{expression, Derives, list_leaf, vector_leaf, head, Catches, for_head, brackets, signature}
 use Rattle.dy_rules.specs.Cutting.{Item, fragments_in}
@@ -26,25 +29,25 @@ holds_read : (bracket : Bracket) (found : Option Tree) (opener : Token) (inner :
 holds_read bracket None opener inner closer h = tt
 holds_read bracket (Some tree) opener inner closer h = h tree refl
 
-list_holds : (found : Option Inside) (opener : Token) (inner : SeenFragments) (closer : Token) → list_in inner ≡ found → bracket_of opener closer ≡ sharp_round → HoldsIf sharp_round (option_map (list_tree opener) found) opener inner closer
+list_holds : (found : Option Inside) (opener : Token) (inner : SeenFragments) (closer : Token) → list_in inner ≡ found → bracket_of opener closer ≡ enclosures.SharpRound → HoldsIf enclosures.SharpRound (option_map (list_tree opener) found) opener inner closer
 list_holds None opener inner closer e is = tt
 list_holds (Some found) opener inner closer e is = λ words. list_leaf words found.items found.last opener inner closer is (list_sound inner found e)
 
-vector_holds : (found : Option (List Constant)) (opener : Token) (inner : SeenFragments) (closer : Token) → vector_in inner ≡ found → bracket_of opener closer ≡ sharp_square → HoldsIf sharp_square (option_map (vector_tree opener) found) opener inner closer
+vector_holds : (found : Option (List Constant)) (opener : Token) (inner : SeenFragments) (closer : Token) → vector_in inner ≡ found → bracket_of opener closer ≡ enclosures.SharpSquare → HoldsIf enclosures.SharpSquare (option_map (vector_tree opener) found) opener inner closer
 vector_holds None opener inner closer e is = tt
 vector_holds (Some items) opener inner closer e is = λ words. vector_leaf words items opener inner closer is (vector_sound inner items e)
 
-expression_row : (inner : SeenFragments) (items : List Item) (tree : Tree) → ItemsSound items → fragments_in items ≡ row inner → expression_items nothing items ≡ Some tree → Derives nothing (expression tree) (row inner)
-expression_row inner items tree h parts e = subst (Derives nothing (expression tree)) parts (expression_sound nothing items tree h e)
+expression_row : (inner : SeenFragments) (items : List Item) (tree : Tree) → ItemsSound items → fragments_in items ≡ row inner → expression_items splittings.Nothing items ≡ Some tree → Derives splittings.Nothing (expression tree) (row inner)
+expression_row inner items tree h parts e = subst (Derives splittings.Nothing (expression tree)) parts (expression_sound splittings.Nothing items tree h e)
 
 inside_sound : (bracket : Bracket) (opener : Token) (inner : SeenFragments) (closer : Token) (items : List Item) → bracket_of opener closer ≡ bracket → ItemsSound items → fragments_in items ≡ row inner → HoldsIf bracket (tree_inside bracket opener inner items) opener inner closer
-inside_sound round opener inner closer items is h parts = holds_read round (expression_items nothing items) opener inner closer (λ tree e. expression_row inner items tree h parts e)
-inside_sound square opener inner closer items is h parts = holds_read square (expression_items nothing items) opener inner closer (λ tree e. expression_row inner items tree h parts e)
-inside_sound hidden opener inner closer items is h parts = holds_read hidden (expression_items nothing items) opener inner closer (λ tree e. expression_row inner items tree h parts e)
-inside_sound special opener inner closer items is h parts = holds_read special (expression_items nothing items) opener inner closer (λ tree e. tt)
-inside_sound sharp_round opener inner closer items is h parts = list_holds (list_in inner) opener inner closer refl is
-inside_sound sharp_square opener inner closer items is h parts = vector_holds (vector_in inner) opener inner closer refl is
-inside_sound (statement kind) opener inner closer items is h parts = holds_read (statement kind) (statement_items kind opener items) opener inner closer (λ tree e. statement_sound kind opener inner closer items tree h parts is e)
+inside_sound enclosures.Round opener inner closer items is h parts = holds_read enclosures.Round (expression_items splittings.Nothing items) opener inner closer (λ tree e. expression_row inner items tree h parts e)
+inside_sound enclosures.Square opener inner closer items is h parts = holds_read enclosures.Square (expression_items splittings.Nothing items) opener inner closer (λ tree e. expression_row inner items tree h parts e)
+inside_sound enclosures.Hidden opener inner closer items is h parts = holds_read enclosures.Hidden (expression_items splittings.Nothing items) opener inner closer (λ tree e. expression_row inner items tree h parts e)
+inside_sound enclosures.Special opener inner closer items is h parts = holds_read enclosures.Special (expression_items splittings.Nothing items) opener inner closer (λ tree e. tt)
+inside_sound enclosures.SharpRound opener inner closer items is h parts = list_holds (list_in inner) opener inner closer refl is
+inside_sound enclosures.SharpSquare opener inner closer items is h parts = vector_holds (vector_in inner) opener inner closer refl is
+inside_sound (enclosures.Statement kind) opener inner closer items is h parts = holds_read (enclosures.Statement kind) (statement_items kind opener items) opener inner closer (λ tree e. statement_sound kind opener inner closer items tree h parts is e)
 
 inside_read : (opener : Token) (inner : SeenFragments) (closer : Token) (items : List Item) → ItemsSound items → fragments_in items ≡ row inner → InsideSound (row inner) (found_of opener inner closer items)
 inside_read opener inner closer items h parts =
@@ -53,12 +56,12 @@ inside_read opener inner closer items h parts =
       limits_are = λ limits e. subst (LimitsAre limits) parts (limits_sound items limits h e);
       bound_are = λ bound e. subst (Bind bound.parts bound.last) parts (bind_sound items bound h e);
       given_are = λ given e. subst (Give given.parts given.last) parts (give_sound items given h e);
-      listed_is = λ entries e. subst (Derives nothing (brackets entries)) parts (listed_items_sound items entries h e);
-      method_is = λ method e. subst (Derives nothing (signature method.found method.results method.trees)) parts (method_sound items method h e);
+      listed_is = λ entries e. subst (Derives splittings.Nothing (brackets entries)) parts (listed_items_sound items entries h e);
+      method_is = λ method e. subst (Derives splittings.Nothing (signature method.found method.results method.trees)) parts (method_sound items method h e);
       named_is = λ method e. subst (NamedIs method) parts (named_sound items method h e);
       caught_is = λ caught e. subst (Catches caught.variable caught.condition) parts (caught_sound items caught h e);
-      clauses_are = λ clauses e. subst (Derives steps (for_head clauses.parts clauses.last)) parts (for_head_sound items clauses h e);
-      head_is = λ found e. subst (Derives tests (head found.selected found.test)) parts (head_sound items found h e);
+      clauses_are = λ clauses e. subst (Derives splittings.Steps (for_head clauses.parts clauses.last)) parts (for_head_sound items clauses h e);
+      head_is = λ found e. subst (Derives splittings.Tests (head found.selected found.test)) parts (head_sound items found h e);
     }
 
 group_item_sound : (opener : Token) (inner : SeenFragments) (closer : Token) → ItemsSound (items_in inner) → ItemSound (item_of (group opener inner closer))

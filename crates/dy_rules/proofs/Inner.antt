@@ -2,8 +2,13 @@
 use Rattle.std.proofs.Common.{◌≡◌, Bool, true, false, not, ◌&&◌, List, [], ◌∷◌, Option, Some, None, option_and_then, refl, sym, subst}
 use Rattle.dy_tree.specs.declared.token.Token.{Token}
 use Rattle.dy_tree.specs.Fragments.{SeenFragment, one, group}
+use Rattle.dy_tree.specs.declared.roles.Role.{Role}
+use Rattle.dy_tree.specs.declared.roles.Role.TheVariants as roles
+use Rattle.dy_tree.specs.declared.splitters.Splitting.{Splitting}
+use Rattle.dy_tree.specs.declared.splitters.Splitting.TheVariants as splittings
+use Rattle.dy_tree.specs.declared.splitters.Splitter.TheVariants as splitter_words
 use Rattle.dy_rules.specs.Trees.{Tree, literal}
-use Rattle.dy_rules.specs.Roles.{Role, integer, character, string, boolean, symbol, named, operator, minus, tilde, assigns, dot, comma, semicolon, arrow, colons, lets, locals, role_of, Splitting, nothing, branches, endings, last_part, steps, tests, no_splitter, splits_as, splits, positive, remains}
+use Rattle.dy_rules.specs.Roles.{role_of, splits_as, splits, positive}
 use Rattle.dy_rules.specs.Cutting.{is_semicolon_role, is_semicolon, is_let_role, is_let, is_splitter, is_arrow}
 use Rattle.dy_rules.specs.Reading.{Outer, Part, State, wants, counted, has, dotted, integer_part, name_if, at_operand, behind, member_if, behind_dot, after_item}
 use Rattle.dy_rules.specs.Fragments.{item_of}
@@ -17,17 +22,17 @@ abbrev Fragments : Type 0
 Fragments = List SeenFragment
 
 abbrev pub inner_role : Role → Bool
-inner_role integer = true
-inner_role character = true
-inner_role string = true
-inner_role boolean = true
-inner_role symbol = true
-inner_role named = true
-inner_role (operator precedence) = true
-inner_role minus = true
-inner_role tilde = true
-inner_role assigns = true
-inner_role dot = true
+inner_role roles.Integer = true
+inner_role roles.Character = true
+inner_role roles.Text = true
+inner_role roles.Boolean = true
+inner_role roles.Symbol = true
+inner_role roles.Named = true
+inner_role (roles.Operator precedence) = true
+inner_role roles.Minus = true
+inner_role roles.Tilde = true
+inner_role roles.Assigns = true
+inner_role roles.Dot = true
 inner_role _ = false
 
 -- a fragment that may stand in an expression
@@ -39,26 +44,26 @@ abbrev pub Inner : Splitting → Fragments → Type 0
 Inner words [] = Unit {0}
 Inner words (first ∷ rest) = (is_inner words first ≡ true) × Inner words rest
 
-pub splits_no_splitter : (words : Splitting) → splits_as words no_splitter ≡ false
-splits_no_splitter nothing = refl
-splits_no_splitter branches = refl
-splits_no_splitter endings = refl
-splits_no_splitter last_part = refl
-splits_no_splitter steps = refl
-splits_no_splitter tests = refl
+pub splits_no_splitter : (words : Splitting) → splits_as words splitter_words.Absent ≡ false
+splits_no_splitter splittings.Nothing = refl
+splits_no_splitter splittings.Branches = refl
+splits_no_splitter splittings.Endings = refl
+splits_no_splitter splittings.LastPart = refl
+splits_no_splitter splittings.Steps = refl
+splits_no_splitter splittings.Tests = refl
 
 pub inner_if : (words : Splitting) (token : Token) → inner_role (role_of token) ≡ true → splits words token ≡ false → is_inner words (one token) ≡ true
 inner_if words token e f = rw (e, f) refl
 
 operand_inner : (words : Splitting) (role : Role) (outer : Outer) (token : Token) (next : State) → role_of token ≡ role → at_operand words outer token role ≡ Some next → is_inner words (one token) ≡ true
-operand_inner words integer outer token next is e = rw (is, splits_no_splitter words) refl
-operand_inner words character outer token next is e = rw (is, splits_no_splitter words) refl
-operand_inner words string outer token next is e = rw (is, splits_no_splitter words) refl
-operand_inner words boolean outer token next is e = rw (is, splits_no_splitter words) refl
-operand_inner words symbol outer token next is e = rw (is, splits_no_splitter words) refl
-operand_inner words minus outer token next is e = rw (is, splits_no_splitter words) refl
-operand_inner words tilde outer token next is e = rw (is, splits_no_splitter words) refl
-operand_inner words named outer token next is e = go (splits words token) refl e
+operand_inner words roles.Integer outer token next is e = rw (is, splits_no_splitter words) refl
+operand_inner words roles.Character outer token next is e = rw (is, splits_no_splitter words) refl
+operand_inner words roles.Text outer token next is e = rw (is, splits_no_splitter words) refl
+operand_inner words roles.Boolean outer token next is e = rw (is, splits_no_splitter words) refl
+operand_inner words roles.Symbol outer token next is e = rw (is, splits_no_splitter words) refl
+operand_inner words roles.Minus outer token next is e = rw (is, splits_no_splitter words) refl
+operand_inner words roles.Tilde outer token next is e = rw (is, splits_no_splitter words) refl
+operand_inner words roles.Named outer token next is e = go (splits words token) refl e
   where
     go : (b : Bool) → splits words token ≡ b → name_if b token outer ≡ Some next → is_inner words (one token) ≡ true
     go true f g = absurd cc
@@ -66,14 +71,14 @@ operand_inner words named outer token next is e = go (splits words token) refl e
 operand_inner words role outer token next is e = absurd cc
 
 behind_inner : (words : Splitting) (role : Role) (alone part : Part) (token : Token) (next : State) → role_of token ≡ role → behind alone part token role ≡ Some next → is_inner words (one token) ≡ true
-behind_inner words (operator precedence) alone part token next is e = rw (is, splits_no_splitter words) refl
-behind_inner words minus alone part token next is e = rw (is, splits_no_splitter words) refl
-behind_inner words assigns alone part token next is e = rw (is, splits_no_splitter words) refl
-behind_inner words dot alone part token next is e = rw (is, splits_no_splitter words) refl
+behind_inner words (roles.Operator precedence) alone part token next is e = rw (is, splits_no_splitter words) refl
+behind_inner words roles.Minus alone part token next is e = rw (is, splits_no_splitter words) refl
+behind_inner words roles.Assigns alone part token next is e = rw (is, splits_no_splitter words) refl
+behind_inner words roles.Dot alone part token next is e = rw (is, splits_no_splitter words) refl
 behind_inner words role alone part token next is e = absurd cc
 
 dot_inner : (words : Splitting) (role : Role) (tree : Tree) (outer : Outer) (token : Token) (next : State) → role_of token ≡ role → behind_dot words tree outer token role ≡ Some next → is_inner words (one token) ≡ true
-dot_inner words named tree outer token next is e = go (splits words token) refl e
+dot_inner words roles.Named tree outer token next is e = go (splits words token) refl e
   where
     go : (b : Bool) → splits words token ≡ b → member_if b tree outer token ≡ Some next → is_inner words (one token) ≡ true
     go true f g = absurd cc
@@ -98,10 +103,10 @@ reads_inner words (first ∷ rest) state next e = go (after_item words state (it
 
 -- what stands in an item beside expressions
 abbrev pub item_role : Role → Bool
-item_role lets = true
-item_role locals = true
-item_role colons = true
-item_role comma = true
+item_role roles.Lets = true
+item_role roles.Locals = true
+item_role roles.Colons = true
+item_role roles.Comma = true
 item_role _ = false
 
 -- a separator of items
@@ -119,15 +124,15 @@ and_not true false e = refl
 and_not false b e = absurd cc
 
 no_semicolon : (role : Role) → inner_role role ≡ true → is_semicolon_role role ≡ false
-no_semicolon semicolon e = absurd cc
+no_semicolon roles.Semicolon e = absurd cc
 no_semicolon role e = refl
 
 no_semicolon_in_item : (role : Role) → item_role role ≡ true → is_semicolon_role role ≡ false
-no_semicolon_in_item semicolon e = absurd cc
+no_semicolon_in_item roles.Semicolon e = absurd cc
 no_semicolon_in_item role e = refl
 
 no_let : (role : Role) → inner_role role ≡ true → is_let_role role ≡ false
-no_let lets e = absurd cc
+no_let roles.Lets e = absurd cc
 no_let role e = refl
 
 pub semicolons : (words : Splitting) → Separating words is_semicolon
@@ -138,10 +143,10 @@ semicolons words = record { inner = inner; others = λ token e. no_semicolon_in_
     inner (group opener within closer) e = refl
 
 no_splitter_in_item : (words : Splitting) (role : Role) (token : Token) → role_of token ≡ role → item_role role ≡ true → splits words token ≡ false
-no_splitter_in_item words lets token is e = rw (is, splits_no_splitter words) refl
-no_splitter_in_item words locals token is e = rw (is, splits_no_splitter words) refl
-no_splitter_in_item words colons token is e = rw (is, splits_no_splitter words) refl
-no_splitter_in_item words comma token is e = rw (is, splits_no_splitter words) refl
+no_splitter_in_item words roles.Lets token is e = rw (is, splits_no_splitter words) refl
+no_splitter_in_item words roles.Locals token is e = rw (is, splits_no_splitter words) refl
+no_splitter_in_item words roles.Colons token is e = rw (is, splits_no_splitter words) refl
+no_splitter_in_item words roles.Comma token is e = rw (is, splits_no_splitter words) refl
 no_splitter_in_item words role token is e = absurd cc
 
 pub splitters : (words : Splitting) → Separating words (is_splitter words)
@@ -164,11 +169,11 @@ pub inner_closed : (words : Splitting) (separates : SeenFragment → Bool) → S
 inner_closed words separates s fragments h = inner_closed_by words separates s.inner fragments h
 
 no_arrow : (role : Role) → inner_role role ≡ true → is_arrow_role role ≡ false
-no_arrow arrow e = absurd cc
+no_arrow roles.Arrow e = absurd cc
 no_arrow role e = refl
 
 no_arrow_in_item : (role : Role) → item_role role ≡ true → is_arrow_role role ≡ false
-no_arrow_in_item arrow e = absurd cc
+no_arrow_in_item roles.Arrow e = absurd cc
 no_arrow_in_item role e = refl
 
 pub arrows : (words : Splitting) → Separating words is_arrow
@@ -179,7 +184,7 @@ arrows words = record { inner = inner; others = λ token e. no_arrow_in_item (ro
     inner (group opener within closer) e = refl
 
 no_comma : (role : Role) → inner_role role ≡ true → is_comma role ≡ false
-no_comma comma e = absurd cc
+no_comma roles.Comma e = absurd cc
 no_comma role e = refl
 
 pub inner_no_comma : (words : Splitting) (fragment : SeenFragment) → is_inner words fragment ≡ true → is_comma_fragment fragment ≡ false
@@ -187,7 +192,7 @@ inner_no_comma words (one token) e = no_comma (role_of token) (and_left (inner_r
 inner_no_comma words (group opener within closer) e = refl
 
 no_remains : (role : Role) → inner_role role ≡ true → is_remains_role role ≡ false
-no_remains remains e = absurd cc
+no_remains roles.Remains e = absurd cc
 no_remains role e = refl
 
 pub inner_no_remains : (words : Splitting) (fragment : SeenFragment) → is_inner words fragment ≡ true → is_remains fragment ≡ false

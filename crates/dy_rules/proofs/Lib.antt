@@ -35,3 +35,5 @@ pub mod Examples
 pub mod StatementExamples
 pub mod ConstantSound
 pub mod ConstantComplete
+pub mod Held
+pub mod HeldTypes

@@ -1,7 +1,9 @@
 -- Fragments as a list and inside of a group, with what was read of them, and the reader over parts of them.
-use Rattle.std.proofs.Common.{◌≡◌, List, [], ◌∷◌, ◌++◌, Option, Some, None, option_map, option_and_then, refl, sym, ap}
+use Rattle.std.proofs.Common.{◌≡◌, ℕ, ◌+◌, ◌∙◌, cond, nat_lt, Bool, true, false, List, [], ◌∷◌, ◌++◌, map, Option, Some, None, option_map, option_and_then, refl, sym, ap}
+use Rattle.std.specs.List.{fold, list_any, list_all}
 use Rattle.dy_tree.specs.Fragments.{SeenFragment, SeenFragments, no_fragment, fragment_and, row, pack}
-use Rattle.dy_rules.specs.Roles.{Splitting}
+use Rattle.dy_tree.specs.declared.splitters.Splitting.{Splitting}
+use Rattle.dy_rules.specs.Tests.{at_most_one, only_if, if_passes}
 use Rattle.dy_rules.specs.Cutting.{Item, fragments_in}
 use Rattle.dy_rules.specs.Reading.{State, Passing, after_item, after_argument, after_all, after_passing}
 use Rattle.dy_rules.specs.Fragments.{item_of, items_in, items_of}
@@ -64,3 +66,41 @@ map_some f (Some a) b e = (a, refl, sym (some_one (f a) b e))
 pub then_some : {A B : Type 0} (f : A → Option B) (found : Option A) (b : B) → option_and_then f found ≡ Some b → (a : A) × (found ≡ Some a) × (f a ≡ Some b)
 then_some f None b e = absurd cc
 then_some f (Some a) b e = (a, refl, e)
+
+only_if_sound : {A : Type 0} (test : A → Bool) (a b : A) (is : Bool) → test a ≡ is → only_if is a ≡ Some b → (a ≡ b) × (test b ≡ true)
+only_if_sound test a b true is e = let same = some_one a b e in (same, rw (← same) is)
+only_if_sound test a b false is e = absurd cc
+
+-- what passes a test, where something does
+pub passes_sound : {A : Type 0} (test : A → Bool) (found : Option A) (b : A) → option_and_then (if_passes test) found ≡ Some b → (found ≡ Some b) × (test b ≡ true)
+passes_sound test None b e = absurd cc
+passes_sound test (Some a) b e = let (same, is) = only_if_sound test a b (test a) refl e in (ap Some same, is)
+
+-- tests of lists that are seen as others
+
+module _ {A B : Type 0} (test : B → Bool) (see : A → B) (other : A → Bool) (same : (a : A) → test (see a) ≡ other a) where
+  counts_as : (n : ℕ) (list : List A) → fold (λ a b. a + cond (test b) 1 0) n (map see list) ≡ fold (λ a b. a + cond (other b) 1 0) n list
+  counts_as n [] = refl
+  counts_as n (first ∷ rest) =
+      counts_as (n + cond (test (see first)) 1 0) rest ∙ ap (λ one. fold (λ a b. a + cond (other b) 1 0) (n + cond one 1 0) rest) (same first)
+
+  pub at_most_one_as : (list : List A) → at_most_one test (map see list) ≡ at_most_one other list
+  at_most_one_as list = ap (λ n. nat_lt n 2) (counts_as 0 list)
+
+  pub any_as : (list : List A) → list_any test (map see list) ≡ list_any other list
+  any_as [] = refl
+  any_as (first ∷ rest) = rw (same first, any_as rest) refl
+
+  pub all_as : (list : List A) → list_all test (map see list) ≡ list_all other list
+  all_as [] = refl
+  all_as (first ∷ rest) = rw (same first, all_as rest) refl
+
+module _ {A B : Type 0} (test : B → Bool) (see : A → B) (list : List A) where
+  pub at_most_one_seen : at_most_one test (map see list) ≡ at_most_one (λ (a : A). test (see a)) list
+  at_most_one_seen = at_most_one_as test see (λ (a : A). test (see a)) (λ a. refl) list
+
+  pub any_seen : list_any test (map see list) ≡ list_any (λ (a : A). test (see a)) list
+  any_seen = any_as test see (λ (a : A). test (see a)) (λ a. refl) list
+
+  pub all_seen : list_all test (map see list) ≡ list_all (λ (a : A). test (see a)) list
+  all_seen = all_as test see (λ (a : A). test (see a)) (λ a. refl) list

@@ -4,9 +4,18 @@ use Rattle.std.proofs.lemmas.List.{append-nil}
 use Rattle.std.specs.List.{list_any}
 use Rattle.dy_tree.specs.declared.token.Token.{Token}
 use Rattle.dy_tree.specs.Fragments.{SeenFragment, one, group, SeenFragments, row}
+use Rattle.dy_tree.specs.declared.roles.Role.{Role}
+use Rattle.dy_tree.specs.declared.roles.Role.TheVariants as roles
+use Rattle.dy_tree.specs.declared.brackets.Keyword.TheVariants as keywords
+use Rattle.dy_tree.specs.declared.brackets.Bracket.TheVariants as brackets
+use Rattle.dy_tree.specs.declared.splitters.Splitting.{Splitting}
+use Rattle.dy_tree.specs.declared.splitters.Splitting.TheVariants as splittings
+use Rattle.dy_tree.specs.declared.splitters.Splitter.{Splitter}
+use Rattle.dy_tree.specs.declared.splitters.Splitter.TheVariants as splitter_words
+use Rattle.dy_tree.specs.Spelling.{is_spelled}
 use Rattle.dy_rules.specs.Types.{VariableTree, IsVariable, untyped, typed, is_equals, is_splitting, binds_plainly, begins_round}
 use Rattle.dy_rules.specs.Trees.{Tree, for_tree, ItemTree, body_of, Otherwise, no_otherwise, otherwise, ForClause, then_clause, in_clause, from_clause, for_clauses_of, MaybeLimit, no_limit, a_limit, MaybeTree, no_tree, some_tree, StopTree, stop_of}
-use Rattle.dy_rules.specs.Roles.{Role, named, symbol, comma, role_of, Splitting, steps, last_part, Splitter, then_word, from_word, to_word, above_word, below_word, by_word, finally_word, in_word, no_splitter, splitter_of, splits_as, splits, for_word, round, bracket_of, is_same}
+use Rattle.dy_rules.specs.Roles.{role_of, splitter_of, splits_as, splits, bracket_of}
 use Rattle.dy_rules.specs.Arguments.{is_comma_fragment}
 use Rattle.dy_rules.specs.Productions.{is_symbol_role, is_stop_word, is_limit_word}
 use Rattle.dy_rules.specs.Cutting.{Ending, Item, Piece, Pieces, is_let, is_splitter, cut, ending, fragments_in, Front, word_of}
@@ -28,17 +37,17 @@ Fragments = List SeenFragment
 
 -- an expression in the clauses of a `for`
 pub record StepRead (tree : Tree) (fragments : List SeenFragment) : Type 0 where
-  pub read : expression_items steps (items_of fragments) ≡ Some tree
-  pub inner : Inner steps fragments
+  pub read : expression_items splittings.Steps (items_of fragments) ≡ Some tree
+  pub inner : Inner splittings.Steps fragments
 
-pub step_expression : (tree : Tree) (fragments : Fragments) (state : State) → reads steps (wants whole) fragments ≡ Some state → tree_of state ≡ Some tree → StepRead tree fragments
-step_expression tree fragments state e f = record { read = expression_read steps tree fragments state e f; inner = reads_inner steps fragments (wants whole) state e }
+pub step_expression : (tree : Tree) (fragments : Fragments) (state : State) → reads splittings.Steps (wants whole) fragments ≡ Some state → tree_of state ≡ Some tree → StepRead tree fragments
+step_expression tree fragments state e f = record { read = expression_read splittings.Steps tree fragments state e f; inner = reads_inner splittings.Steps fragments (wants whole) state e }
 
-unsplit : (tree : Tree) (fragments : Fragments) → StepRead tree fragments → Closed (is_splitter steps) false fragments
-unsplit tree fragments h = inner_closed steps (is_splitter steps) (splitters steps) fragments h.inner
+unsplit : (tree : Tree) (fragments : Fragments) → StepRead tree fragments → Closed (is_splitter splittings.Steps) false fragments
+unsplit tree fragments h = inner_closed splittings.Steps (is_splitter splittings.Steps) (splitters splittings.Steps) fragments h.inner
 
 no_commas : (tree : Tree) (fragments : Fragments) → StepRead tree fragments → Closed is_comma_fragment false fragments
-no_commas tree fragments h = inner_closed_by steps is_comma_fragment (inner_no_comma steps) fragments h.inner
+no_commas tree fragments h = inner_closed_by splittings.Steps is_comma_fragment (inner_no_comma splittings.Steps) fragments h.inner
 
 closed_join : (separates : SeenFragment → Bool) (bound : Bool) (before after : Fragments) → Closed separates bound before → Closed separates false after → Closed separates bound (before ++ after)
 closed_join separates bound [] after h k = subst (λ (b : Bool). Closed separates b after) (sym h) k
@@ -72,7 +81,7 @@ variable_some : (variable : VariableTree) (fragments : Fragments) → IsVariable
 variable_some variable fragments (untyped token is) = (one token, [], refl)
 variable_some variable fragments (typed token sign type after is sign_is h) = (one token, one sign ∷ after, refl)
 
-named_let : (token : Token) → role_of token ≡ named → is_let (one token) ≡ false
+named_let : (token : Token) → role_of token ≡ roles.Named → is_let (one token) ≡ false
 named_let token is = rw is refl
 
 -- The name that is bound stands by its position.
@@ -84,44 +93,44 @@ variable_closed words separates s variable fragments (typed token sign type afte
 
 pub record RangeRead (limit : MaybeLimit) (step : MaybeTree) (fragments : List SeenFragment) : Type 0 where
   pub others : List Piece
-  pub behind : Behind (is_splitter steps) others fragments
+  pub behind : Behind (is_splitter splittings.Steps) others fragments
   pub found : range_in others ≡ Some (range_of limit step)
   pub commas : Closed is_comma_fragment false fragments
 
 pub no_range_read : RangeRead no_limit no_tree []
-no_range_read = record { others = []; behind = behind_nothing (is_splitter steps); found = refl; commas = refl }
+no_range_read = record { others = []; behind = behind_nothing (is_splitter splittings.Steps); found = refl; commas = refl }
 
 -- a word with a place in statements is a name
-word_role : (token : Token) (word : Splitter) → splitter_of token ≡ word → (word ≡ no_splitter → ⊥) → role_of token ≡ named
+word_role : (token : Token) (word : Splitter) → splitter_of token ≡ word → (word ≡ splitter_words.Absent → ⊥) → role_of token ≡ roles.Named
 word_role token word e some = go (role_of token) refl
   where
-    go : (role : Role) → role_of token ≡ role → role ≡ named
-    go named is = refl
+    go : (role : Role) → role_of token ≡ role → role ≡ roles.Named
+    go roles.Named is = refl
     go role is = absurd (some (sym e ∙ rw is refl))
 
-word_facts : (token : Token) → role_of token ≡ named → (is_comma_fragment (one token) ≡ false) × (is_let (one token) ≡ false)
+word_facts : (token : Token) → role_of token ≡ roles.Named → (is_comma_fragment (one token) ≡ false) × (is_let (one token) ≡ false)
 word_facts token is = (rw is refl, rw is refl)
 
-commas_behind : (word : Token) (after : Fragments) → role_of word ≡ named → Closed is_comma_fragment false after → Closed is_comma_fragment false (one word ∷ after)
+commas_behind : (word : Token) (after : Fragments) → role_of word ≡ roles.Named → Closed is_comma_fragment false after → Closed is_comma_fragment false (one word ∷ after)
 commas_behind word after is h = let (no_comma, no_let) = word_facts word is in (no_comma, subst (λ (b : Bool). Closed is_comma_fragment b after) (sym no_let) h)
 
-pub step_range_read : (tree : Tree) (word : Token) (after : Fragments) → splitter_of word ≡ by_word → StepRead tree after → RangeRead no_limit (some_tree tree) (one word ∷ after)
+pub step_range_read : (tree : Tree) (word : Token) (after : Fragments) → splitter_of word ≡ splitter_words.By → StepRead tree after → RangeRead no_limit (some_tree tree) (one word ∷ after)
 step_range_read tree word after is h =
     record {
       others = record { separator = one word; items = items_of after } ∷ [];
-      behind = behind_last (is_splitter steps) (one word) after (rw is refl) (unsplit tree after h);
+      behind = behind_last (is_splitter splittings.Steps) (one word) after (rw is refl) (unsplit tree after h);
       found = ap (λ (b : Bool). range_if b (record { separator = one word; items = items_of after }) []) (ap is_limit_word is) ∙ ap (λ (w : Splitter). step_at w (items_of after)) is ∙ ap (option_map step_of) h.read;
-      commas = commas_behind word after (word_role word by_word is (λ e. cc)) (no_commas tree after h);
+      commas = commas_behind word after (word_role word splitter_words.By is (λ e. cc)) (no_commas tree after h);
     }
 
 limit_token_some : (separator : SeenFragment) (list : List Item) (rest : Option Range) (found : Range) → limit_token separator list rest ≡ Some found → found.limit ≡ no_limit → ⊥
 limit_token_some (group opener inner closer) list rest found e f = absurd cc
-limit_token_some (one word) list None found e f = bound_none (expression_items steps list) e
+limit_token_some (one word) list None found e f = bound_none (expression_items splittings.Steps list) e
   where
     bound_none : (bound : Option Tree) → option_and_then (limit_with word None) bound ≡ Some found → ⊥
     bound_none None g = cc
     bound_none (Some tree) g = cc
-limit_token_some (one word) list (Some range) found e f = bound_some (expression_items steps list) e
+limit_token_some (one word) list (Some range) found e f = bound_some (expression_items splittings.Steps list) e
   where
     bound_some : (bound : Option Tree) → option_and_then (limit_with word (Some range)) bound ≡ Some found → ⊥
     bound_some None g = cc
@@ -136,10 +145,10 @@ step_alone (piece ∷ others) step e = go (is_limit_word (word_of piece.separato
     go true f = absurd (limit_token_some piece.separator piece.items (step_in others) (range_of no_limit step) f refl)
     go false f = f
 
-limit_splits : (word : Splitter) → is_limit_word word ≡ true → (splits_as steps word ≡ true) × (word ≡ no_splitter → ⊥)
-limit_splits to_word e = (refl, λ f. cc)
-limit_splits above_word e = (refl, λ f. cc)
-limit_splits below_word e = (refl, λ f. cc)
+limit_splits : (word : Splitter) → is_limit_word word ≡ true → (splits_as splittings.Steps word ≡ true) × (word ≡ splitter_words.Absent → ⊥)
+limit_splits splitter_words.To e = (refl, λ f. cc)
+limit_splits splitter_words.Above e = (refl, λ f. cc)
+limit_splits splitter_words.Below e = (refl, λ f. cc)
 limit_splits word e = absurd cc
 
 pub limit_range_read : (bound : Tree) (step : MaybeTree) (word : Token) (first second all : Fragments) → all ≡ one word ∷ (first ++ second) → is_limit_word (splitter_of word) ≡ true → StepRead bound first → RangeRead no_limit step second → RangeRead (a_limit word bound) step all
@@ -148,7 +157,7 @@ limit_range_read bound step word first second all parts is h k =
     subst (RangeRead (a_limit word bound) step) (sym parts)
     (record {
       others = record { separator = one word; items = items_of first } ∷ k.others;
-      behind = behind_piece (is_splitter steps) k.others (one word) first second splits_here (unsplit bound first h) k.behind;
+      behind = behind_piece (is_splitter splittings.Steps) k.others (one word) first second splits_here (unsplit bound first h) k.behind;
       found = ap (λ (b : Bool). range_if b (record { separator = one word; items = items_of first }) k.others) is ∙ ap (λ (o : Option Tree). option_and_then (limit_with word (step_in k.others)) o) h.read
           ∙ ap (option_map (with_limit word bound)) (step_alone k.others step k.found);
       commas = commas_behind word (first ++ second) (word_role word (splitter_of word) refl some) (closed_join is_comma_fragment false first second (no_commas bound first h) k.commas);
@@ -160,7 +169,7 @@ pub record ClauseRead (tree : ForClause) (fragments : List SeenFragment) : Type 
   pub unstopped : is_stop (items_of fragments) ≡ false
   pub some : Nonempty fragments
 
-named_unstopped : (token : Token) → role_of token ≡ named → is_stop_at (one token) ≡ false
+named_unstopped : (token : Token) → role_of token ≡ roles.Named → is_stop_at (one token) ≡ false
 named_unstopped token is = rw is refl
 
 variable_unstopped : (variable : VariableTree) (before after : Fragments) → IsVariable variable before → is_stop (items_of (before ++ after)) ≡ false
@@ -168,10 +177,10 @@ variable_unstopped variable before after (untyped token is) = named_unstopped to
 variable_unstopped variable before after (typed token sign type rest is sign_is h) = named_unstopped token is
 
 -- a clause that is cut at its words
-clause_cut : (variable : VariableTree) (before front : Fragments) (others : List Piece) (all : Fragments) (tree : ForClause) → cut (is_splitter steps) true (items_of all) ≡ record { first = items_of (before ++ front); others = others } → IsVariable variable before → binds_plainly steps (before ++ front) ≡ true
+clause_cut : (variable : VariableTree) (before front : Fragments) (others : List Piece) (all : Fragments) (tree : ForClause) → cut (is_splitter splittings.Steps) true (items_of all) ≡ record { first = items_of (before ++ front); others = others } → IsVariable variable before → binds_plainly splittings.Steps (before ++ front) ≡ true
     → begins_colons (items_of front) ≡ false → (fragments_in (items_of front) ≡ [] ⊎ ((first : Token) × (rest : Fragments) × (fragments_in (items_of front) ≡ one first ∷ rest))) → clause_behind variable (items_of front) others ≡ Some tree → clause_items (items_of all) ≡ Some tree
 clause_cut variable before front others all tree e v plainly colon which f =
-    ap clause_pieces e ∙ ap (λ (fs : Fragments). clause_if (binds_plainly steps fs) (record { first = items_of (before ++ front); others = others })) (fragments_back (before ++ front))
+    ap clause_pieces e ∙ ap (λ (fs : Fragments). clause_if (binds_plainly splittings.Steps fs) (record { first = items_of (before ++ front); others = others })) (fragments_back (before ++ front))
     ∙ ap (λ (b : Bool). clause_if b (record { first = items_of (before ++ front); others = others })) plainly
     ∙ ap (λ (items : List Item). option_and_then (clause_with others) (variable_front items)) (items_append before front)
     ∙ ap (λ (o : Option VariableFront). option_and_then (clause_with others) o) (variable_complete variable before v (items_of front) colon (λ g. no_brackets which)) ∙ f
@@ -181,9 +190,9 @@ clause_cut variable before front others all tree e v plainly colon which f =
     no_brackets (inr (first, rest, g)) = ap begins_round g
 
 equals_facts : (equals : Token) → is_equals equals ≡ true → (is_colons (one equals) ≡ false) × (is_in (one equals) ≡ false) × (is_comma_fragment (one equals) ≡ false)
-equals_facts equals e = let is = comparison_is (role_of equals) (is_same (codes "=") equals.text) e in (rw is refl, rw is refl, rw is refl)
+equals_facts equals e = let is = comparison_is (role_of equals) (is_spelled (codes "=") equals) e in (rw is refl, rw is refl, rw is refl)
 
-then_reads : (variable : VariableTree) (first next : Tree) (equals word : Token) (middle after : Fragments) → is_equals equals ≡ true → splitter_of word ≡ then_word → StepRead first middle → StepRead next after
+then_reads : (variable : VariableTree) (first next : Tree) (equals word : Token) (middle after : Fragments) → is_equals equals ≡ true → splitter_of word ≡ splitter_words.Then → StepRead first middle → StepRead next after
     → clause_behind variable (items_of (one equals ∷ middle)) (record { separator = one word; items = items_of after } ∷ []) ≡ Some (then_clause variable first next)
 then_reads variable first next equals word middle after is role h k =
     let (no_colons, no_in, no_comma) = equals_facts equals is in
@@ -192,65 +201,65 @@ then_reads variable first next equals word middle after is role h k =
     ∙ ap (λ (w : Splitter). then_at w variable (items_of middle) (items_of after)) role
     ∙ ap (λ (o : Option Tree). option_and_then (then_with variable (items_of after)) o) h.read ∙ ap (option_map (then_of variable first)) k.read
 
-equals_plain : (equals : Token) (middle : Fragments) (tree : Tree) → is_equals equals ≡ true → StepRead tree middle → Inner steps (one equals ∷ middle)
-equals_plain equals middle tree is h = ((equals_inner steps equals is).0, h.inner)
+equals_plain : (equals : Token) (middle : Fragments) (tree : Tree) → is_equals equals ≡ true → StepRead tree middle → Inner splittings.Steps (one equals ∷ middle)
+equals_plain equals middle tree is h = ((equals_inner splittings.Steps equals is).0, h.inner)
 
-pub then_read : (variable : VariableTree) (first next : Tree) (equals word : Token) (before middle after all : Fragments) → all ≡ (before ++ one equals ∷ middle) ++ one word ∷ after → is_equals equals ≡ true → splitter_of word ≡ then_word → IsVariable variable before → binds_plainly steps before ≡ true
+pub then_read : (variable : VariableTree) (first next : Tree) (equals word : Token) (before middle after all : Fragments) → all ≡ (before ++ one equals ∷ middle) ++ one word ∷ after → is_equals equals ≡ true → splitter_of word ≡ splitter_words.Then → IsVariable variable before → binds_plainly splittings.Steps before ≡ true
     → StepRead first middle → StepRead next after → ClauseRead (then_clause variable first next) all
 then_read variable first next equals word before middle after all parts is role v plainly h k =
     let inner = equals_plain equals middle first is h in
     let (no_colons, no_in, no_comma) = equals_facts equals is in
-    let front : Closed (is_splitter steps) true (before ++ one equals ∷ middle) =
-    closed_join (is_splitter steps) true before (one equals ∷ middle) (variable_closed steps (is_splitter steps) (splitters steps) variable before v plainly) (inner_closed steps (is_splitter steps) (splitters steps) (one equals ∷ middle) inner) in
+    let front : Closed (is_splitter splittings.Steps) true (before ++ one equals ∷ middle) =
+    closed_join (is_splitter splittings.Steps) true before (one equals ∷ middle) (variable_closed splittings.Steps (is_splitter splittings.Steps) (splitters splittings.Steps) variable before v plainly) (inner_closed splittings.Steps (is_splitter splittings.Steps) (splitters splittings.Steps) (one equals ∷ middle) inner) in
     let first_commas : Closed is_comma_fragment false (before ++ one equals ∷ middle) =
-    closed_join is_comma_fragment false before (one equals ∷ middle) (no_commas_in before (variable_quiet variable before v)) (inner_closed_by steps is_comma_fragment (inner_no_comma steps) (one equals ∷ middle) inner) in
+    closed_join is_comma_fragment false before (one equals ∷ middle) (no_commas_in before (variable_quiet variable before v)) (inner_closed_by splittings.Steps is_comma_fragment (inner_no_comma splittings.Steps) (one equals ∷ middle) inner) in
     subst (ClauseRead (then_clause variable first next)) (sym parts)
     (record {
       read = clause_cut variable before (one equals ∷ middle) (record { separator = one word; items = items_of after } ∷ []) ((before ++ one equals ∷ middle) ++ one word ∷ after) (then_clause variable first next)
-          ((behind_last (is_splitter steps) (one word) after (rw role refl) (unsplit next after k)).pieces true (before ++ one equals ∷ middle) front) v
-          (plain_join steps before (one equals ∷ middle) (variable_some variable before v) plainly (inner_plain steps (one equals ∷ middle) inner)) no_colons (inr (equals, middle, fragments_back (one equals ∷ middle)))
+          ((behind_last (is_splitter splittings.Steps) (one word) after (rw role refl) (unsplit next after k)).pieces true (before ++ one equals ∷ middle) front) v
+          (plain_join splittings.Steps before (one equals ∷ middle) (variable_some variable before v) plainly (inner_plain splittings.Steps (one equals ∷ middle) inner)) no_colons (inr (equals, middle, fragments_back (one equals ∷ middle)))
           (then_reads variable first next equals word middle after is role h k);
-      commas = closed_join is_comma_fragment false (before ++ one equals ∷ middle) (one word ∷ after) first_commas (commas_behind word after (word_role word then_word role (λ e. cc)) (no_commas next after k));
+      commas = closed_join is_comma_fragment false (before ++ one equals ∷ middle) (one word ∷ after) first_commas (commas_behind word after (word_role word splitter_words.Then role (λ e. cc)) (no_commas next after k));
       unstopped = ap (λ (fs : Fragments). is_stop (items_of fs)) (append_assoc before (one equals ∷ middle) (one word ∷ after)) ∙ variable_unstopped variable before (one equals ∷ (middle ++ one word ∷ after)) v;
       some = nonempty_on (before ++ one equals ∷ middle) (one word) after;
     })
 
-in_facts : (word : Token) → splitter_of word ≡ in_word → role_of word ≡ named → (is_in (one word) ≡ true) × (splits steps word ≡ false) × (is_colons (one word) ≡ false) × (is_let (one word) ≡ false)
-in_facts word is role = (ap is_in_word is, ap (splits_as steps) is, rw role refl, rw role refl)
+in_facts : (word : Token) → splitter_of word ≡ splitter_words.In → role_of word ≡ roles.Named → (is_in (one word) ≡ true) × (splits splittings.Steps word ≡ false) × (is_colons (one word) ≡ false) × (is_let (one word) ≡ false)
+in_facts word is role = (ap is_in_word is, ap (splits_as splittings.Steps) is, rw role refl, rw role refl)
 
-pub in_read : (variable : VariableTree) (collection : Tree) (word : Token) (before after all : Fragments) → all ≡ before ++ one word ∷ after → splitter_of word ≡ in_word → IsVariable variable before → binds_plainly steps before ≡ true → StepRead collection after → ClauseRead (in_clause variable collection) all
+pub in_read : (variable : VariableTree) (collection : Tree) (word : Token) (before after all : Fragments) → all ≡ before ++ one word ∷ after → splitter_of word ≡ splitter_words.In → IsVariable variable before → binds_plainly splittings.Steps before ≡ true → StepRead collection after → ClauseRead (in_clause variable collection) all
 in_read variable collection word before after all parts is v plainly h =
-    let role = word_role word in_word is (λ e. cc) in
+    let role = word_role word splitter_words.In is (λ e. cc) in
     let (in_is, unsplitting, no_colons, no_let) = in_facts word is role in
-    let behind : Closed (is_splitter steps) false (one word ∷ after) = (unsplitting, subst (λ (b : Bool). Closed (is_splitter steps) b after) (sym no_let) (unsplit collection after h)) in
-    let front : Closed (is_splitter steps) true (before ++ one word ∷ after) = closed_join (is_splitter steps) true before (one word ∷ after) (variable_closed steps (is_splitter steps) (splitters steps) variable before v plainly) behind in
+    let behind : Closed (is_splitter splittings.Steps) false (one word ∷ after) = (unsplitting, subst (λ (b : Bool). Closed (is_splitter splittings.Steps) b after) (sym no_let) (unsplit collection after h)) in
+    let front : Closed (is_splitter splittings.Steps) true (before ++ one word ∷ after) = closed_join (is_splitter splittings.Steps) true before (one word ∷ after) (variable_closed splittings.Steps (is_splitter splittings.Steps) (splitters splittings.Steps) variable before v plainly) behind in
     subst (ClauseRead (in_clause variable collection)) (sym parts)
     (record {
-      read = clause_cut variable before (one word ∷ after) [] (before ++ one word ∷ after) (in_clause variable collection) (cut_end (is_splitter steps) true (before ++ one word ∷ after) front) v
-          (plain_join steps before (one word ∷ after) (variable_some variable before v) plainly (rw (unsplitting, inner_plain steps after h.inner) refl)) no_colons (inr (word, after, fragments_back (one word ∷ after)))
+      read = clause_cut variable before (one word ∷ after) [] (before ++ one word ∷ after) (in_clause variable collection) (cut_end (is_splitter splittings.Steps) true (before ++ one word ∷ after) front) v
+          (plain_join splittings.Steps before (one word ∷ after) (variable_some variable before v) plainly (rw (unsplitting, inner_plain splittings.Steps after h.inner) refl)) no_colons (inr (word, after, fragments_back (one word ∷ after)))
           (ap (λ (b : Bool). in_if b variable (item_of (one word)) (items_of after) []) in_is ∙ ap (option_map (in_of variable)) h.read);
       commas = closed_join is_comma_fragment false before (one word ∷ after) (no_commas_in before (variable_quiet variable before v)) (commas_behind word after role (no_commas collection after h));
       unstopped = variable_unstopped variable before (one word ∷ after) v;
       some = nonempty_on before (one word) after;
     })
 
-from_reads : (variable : VariableTree) (start : Tree) (limit : MaybeLimit) (step : MaybeTree) (word : Token) (middle : Fragments) (others : List Piece) → splitter_of word ≡ from_word → StepRead start middle → range_in others ≡ Some (range_of limit step)
+from_reads : (variable : VariableTree) (start : Tree) (limit : MaybeLimit) (step : MaybeTree) (word : Token) (middle : Fragments) (others : List Piece) → splitter_of word ≡ splitter_words.From → StepRead start middle → range_in others ≡ Some (range_of limit step)
     → clause_behind variable (items_of []) (record { separator = one word; items = items_of middle } ∷ others) ≡ Some (from_clause variable start limit step)
 from_reads variable start limit step word middle others is h e =
     ap (λ (w : Splitter). from_at w variable (items_of middle) others) is ∙ ap (λ (o : Option Tree). option_and_then (from_with variable (range_in others)) o) h.read ∙ ap (option_map (from_of variable start)) e
 
-pub from_read : (variable : VariableTree) (start : Tree) (limit : MaybeLimit) (step : MaybeTree) (word : Token) (before middle after all : Fragments) → all ≡ before ++ one word ∷ (middle ++ after) → splitter_of word ≡ from_word → IsVariable variable before → binds_plainly steps before ≡ true
+pub from_read : (variable : VariableTree) (start : Tree) (limit : MaybeLimit) (step : MaybeTree) (word : Token) (before middle after all : Fragments) → all ≡ before ++ one word ∷ (middle ++ after) → splitter_of word ≡ splitter_words.From → IsVariable variable before → binds_plainly splittings.Steps before ≡ true
     → StepRead start middle → RangeRead limit step after → ClauseRead (from_clause variable start limit step) all
 from_read variable start limit step word before middle after all parts is v plainly h k =
-    let closed = variable_closed steps (is_splitter steps) (splitters steps) variable before v plainly in
-    let pieces = (behind_piece (is_splitter steps) k.others (one word) middle after (rw is refl) (unsplit start middle h) k.behind).pieces true before closed in
+    let closed = variable_closed splittings.Steps (is_splitter splittings.Steps) (splitters splittings.Steps) variable before v plainly in
+    let pieces = (behind_piece (is_splitter splittings.Steps) k.others (one word) middle after (rw is refl) (unsplit start middle h) k.behind).pieces true before closed in
     subst (ClauseRead (from_clause variable start limit step)) (sym parts)
     (record {
       read = clause_cut variable before [] (record { separator = one word; items = items_of middle } ∷ k.others) (before ++ one word ∷ (middle ++ after)) (from_clause variable start limit step)
           (pieces ∙ ap (λ (fs : Fragments). record { first = items_of fs; others = record { separator = one word; items = items_of middle } ∷ k.others }) (sym (append-nil before))) v
-          (ap (binds_plainly steps) (append-nil before) ∙ plainly) refl (inl refl) (from_reads variable start limit step word middle k.others is h k.found);
+          (ap (binds_plainly splittings.Steps) (append-nil before) ∙ plainly) refl (inl refl) (from_reads variable start limit step word middle k.others is h k.found);
       commas = closed_join is_comma_fragment false before (one word ∷ (middle ++ after)) (no_commas_in before (variable_quiet variable before v))
-          (commas_behind word (middle ++ after) (word_role word from_word is (λ e. cc)) (closed_join is_comma_fragment false middle after (no_commas start middle h) k.commas));
+          (commas_behind word (middle ++ after) (word_role word splitter_words.From is (λ e. cc)) (closed_join is_comma_fragment false middle after (no_commas start middle h) k.commas));
       unstopped = variable_unstopped variable before (one word ∷ (middle ++ after)) v;
       some = nonempty_on before (one word) (middle ++ after);
     })
@@ -262,14 +271,14 @@ pub record ClausesRead (trees : List ForClause) (stop : Option StopTree) (fragme
 pub last_clause_read : (tree : ForClause) (fragments : Fragments) → ClauseRead tree fragments → ClausesRead (tree ∷ []) None fragments
 last_clause_read tree fragments h = record { read = ending_only is_comma_fragment is_stop clause_items stop_items fragments tree h.commas h.unstopped h.read; some = h.some }
 
-stop_role : (token : Token) → is_stop_word token ≡ true → role_of token ≡ symbol
+stop_role : (token : Token) → is_stop_word token ≡ true → role_of token ≡ roles.Symbol
 stop_role token e = go (role_of token) e
   where
-    go : (role : Role) → (is_symbol_role role && (is_same (codes "while") token.text || is_same (codes "until") token.text)) ≡ true → role ≡ symbol
-    go symbol f = refl
+    go : (role : Role) → (is_symbol_role role && (is_spelled (codes "while") token || is_spelled (codes "until") token)) ≡ true → role ≡ roles.Symbol
+    go roles.Symbol f = refl
     go role f = absurd cc
 
-stop_facts : (token : Token) → role_of token ≡ symbol → (is_comma_fragment (one token) ≡ false) × (is_let (one token) ≡ false)
+stop_facts : (token : Token) → role_of token ≡ roles.Symbol → (is_comma_fragment (one token) ≡ false) × (is_let (one token) ≡ false)
 stop_facts token is = (rw is refl, rw is refl)
 
 pub only_stop_read : (key : Token) (test : Tree) (after : Fragments) → is_stop_word key ≡ true → StepRead test after → ClausesRead [] (Some (stop_with key test)) (one key ∷ after)
@@ -280,7 +289,7 @@ only_stop_read key test after is h =
       some = (one key, after, refl);
     }
 
-pub more_clauses_read : (tree : ForClause) (others : List ForClause) (stop : Option StopTree) (separator : Token) (before after all : Fragments) → all ≡ before ++ one separator ∷ after → role_of separator ≡ comma → ClauseRead tree before → ClausesRead others stop after → ClausesRead (tree ∷ others) stop all
+pub more_clauses_read : (tree : ForClause) (others : List ForClause) (stop : Option StopTree) (separator : Token) (before after all : Fragments) → all ≡ before ++ one separator ∷ after → role_of separator ≡ roles.Comma → ClauseRead tree before → ClausesRead others stop after → ClausesRead (tree ∷ others) stop all
 more_clauses_read tree others stop separator before after all parts is h k =
     subst (ClausesRead (tree ∷ others) stop) (sym parts)
     (record {
@@ -297,25 +306,25 @@ some_clauses_read trees stop (first ∷ rest) h = h.read
 
 pub record EndingRead (last : Otherwise) (fragments : List SeenFragment) : Type 0 where
   pub others : List Piece
-  pub behind : Behind (is_splitter last_part) others fragments
+  pub behind : Behind (is_splitter splittings.LastPart) others fragments
   pub found : finally_in others ≡ Some last
 
 pub no_finally_read : EndingRead no_otherwise []
-no_finally_read = record { others = []; behind = behind_nothing (is_splitter last_part); found = refl }
+no_finally_read = record { others = []; behind = behind_nothing (is_splitter splittings.LastPart); found = refl }
 
-pub finally_read : (trees : List ItemTree) (word : Token) (after : Fragments) → splitter_of word ≡ finally_word → BodyRead last_part trees after → EndingRead (otherwise (body_of trees)) (one word ∷ after)
+pub finally_read : (trees : List ItemTree) (word : Token) (after : Fragments) → splitter_of word ≡ splitter_words.Finally → BodyRead splittings.LastPart trees after → EndingRead (otherwise (body_of trees)) (one word ∷ after)
 finally_read trees word after is h =
     record {
       others = record { separator = one word; items = items_of after } ∷ [];
-      behind = behind_last (is_splitter last_part) (one word) after (rw is refl) h.closed;
+      behind = behind_last (is_splitter splittings.LastPart) (one word) after (rw is refl) h.closed;
       found = ap (λ (w : Splitter). finally_at w (items_of after)) is ∙ ap (option_map finally_of) h.read;
     }
 
 pub for_read : (clauses : List ForClause) (stop : Option StopTree) (trees : List ItemTree) (last : Otherwise) (opener : Token) (inner : SeenFragments) (left : Token) (within : SeenFragments) (right : Token) (first second : Fragments) → row inner ≡ group left within right ∷ (first ++ second)
-    → bracket_of left right ≡ round → ForHeadRead clauses stop (row within) → BodyRead last_part trees first → EndingRead last second → statement_items for_word opener (items_in inner) ≡ Some (for_tree opener (for_clauses_of clauses) (stop_of stop) (body_of trees) last)
+    → bracket_of left right ≡ brackets.Round → ForHeadRead clauses stop (row within) → BodyRead splittings.LastPart trees first → EndingRead last second → statement_items keywords.For opener (items_in inner) ≡ Some (for_tree opener (for_clauses_of clauses) (stop_of stop) (body_of trees) last)
 for_read clauses stop trees last opener inner left within right first second parts is e h k =
     let found : Ending ForClause StopTree = record { parts = clauses; last = stop } in
-    ap (statement_items for_word opener) (items_row inner ∙ ap items_of parts) ∙ ap (λ (o : Option Front). option_and_then (for_statement opener) o) (headed_read left within right (first ++ second) is)
-    ∙ ap (λ (o : Option (Ending ForClause StopTree)). option_and_then (for_pieces opener (cut (is_splitter last_part) false (items_of (first ++ second)))) o) (ap for_items (items_row within) ∙ e)
+    ap (statement_items keywords.For opener) (items_row inner ∙ ap items_of parts) ∙ ap (λ (o : Option Front). option_and_then (for_statement opener) o) (headed_read left within right (first ++ second) is)
+    ∙ ap (λ (o : Option (Ending ForClause StopTree)). option_and_then (for_pieces opener (cut (is_splitter splittings.LastPart) false (items_of (first ++ second)))) o) (ap for_items (items_row within) ∙ e)
     ∙ ap (λ (pieces : Pieces). for_pieces opener pieces found) (k.behind.pieces false first h.closed)
     ∙ ap (λ (o : Option (List ItemTree)). option_and_then (for_body opener found (finally_in k.others)) o) h.read ∙ ap (option_map (for_of opener found trees)) k.found

@@ -2,9 +2,10 @@
 use Rattle.std.proofs.Common.{◌≡◌, nat_lt, ℕ, suc, ◌≤◌, Bool, true, false, cond, List, refl, arith}
 use Rattle.std.proofs.lemmas.Bool.{le-ltb}
 use Rattle.dy_tree.specs.Fragments.{SeenFragment}
+use Rattle.dy_tree.specs.declared.roles.Role.TheVariants as roles
 use Rattle.dy_rules.specs.Operators.{below}
 use Rattle.dy_rules.specs.Trees.{Tree, operation, unary}
-use Rattle.dy_rules.specs.Roles.{minus, role_of}
+use Rattle.dy_rules.specs.Roles.{role_of}
 use Rattle.dy_rules.specs.Productions.{is_integer}
 use Rattle.dy_rules.specs.Reading.{Outer, whole, operated, under, assigned, reduced, finished, finished_part}
 
@@ -29,7 +30,7 @@ Ends (assigned place outer) = Unit {0}
 abbrev pub NoNegative : Outer → Fragments → Type 0
 NoNegative whole fragments = Unit {0}
 NoNegative (operated precedence left sign outer) fragments = Unit {0}
-NoNegative (under sign outer) fragments = (role_of sign ≡ minus) → is_integer fragments ≡ false
+NoNegative (under sign outer) fragments = (role_of sign ≡ roles.Minus) → is_integer fragments ≡ false
 NoNegative (assigned place outer) fragments = Unit {0}
 
 pub fits_signed : (height : ℕ) (outer : Outer) (fragments : Fragments) → Fits height outer → NoNegative outer fragments

@@ -5,11 +5,20 @@ use Rattle.std.proofs.lemmas.Bool.{cond_both, ltb-true, ltb-false}
 use Rattle.dy_tree.specs.declared.token.Token.{Token}
 use Rattle.dy_tree.specs.declared.types.LiteralForm.TheVariants as literals
 use Rattle.dy_tree.specs.Fragments.{SeenFragment, one, group, SeenFragments, row}
-use Rattle.dy_rules.specs.Operators.{Precedence, power, product, sum, comparison, logical, below}
+use Rattle.dy_tree.specs.declared.roles.Role.{Role}
+use Rattle.dy_tree.specs.declared.roles.Role.TheVariants as roles
+use Rattle.dy_tree.specs.declared.roles.Precedence.{Precedence}
+use Rattle.dy_tree.specs.declared.roles.Precedence.TheVariants as precedences
+use Rattle.dy_tree.specs.declared.brackets.Bracket.{Bracket}
+use Rattle.dy_tree.specs.declared.brackets.Bracket.TheVariants as enclosures
+use Rattle.dy_tree.specs.declared.splitters.Splitting.{Splitting}
+use Rattle.dy_tree.specs.declared.splitters.Splitting.TheVariants as splittings
+use Rattle.dy_tree.specs.Spelling.{is_spelled}
+use Rattle.dy_rules.specs.Operators.{below}
 use Rattle.dy_rules.specs.Trees.{Tree, assignment, operation, unary, literal, name, Argument, value, ForClause, StopTree, Listed}
-use Rattle.dy_rules.specs.Types.{TypeTree, VariableTree, AreBounds, some_types, IsType, Bind, Give}
+use Rattle.dy_rules.specs.Types.{TypeTree, VariableTree, AreBounds, each_once, some_types, IsType, Bind, Give}
 use Rattle.dy_rules.specs.Cutting.{Limits, Ending, Found, Item, fragments_in, Head, Caught, MethodFound, NamedFound}
-use Rattle.dy_rules.specs.Roles.{Role, integer, character, string, boolean, symbol, named, operator, minus, tilde, assigns, dot, comma, role_of, precedence_of, Splitting, nothing, splits, Bracket, round, square, hidden, bracket_of, positive, sharp_round, sharp_square, statement, special, is_same, tests, steps}
+use Rattle.dy_rules.specs.Roles.{role_of, precedence_of, splits, bracket_of, positive}
 use Rattle.dy_rules.specs.Arguments.{begins_value, passes_two, is_symbol}
 use Rattle.dy_rules.specs.Productions.{is_integer_role, is_integer, Sort, leaf, operand, signed, level, expression, argument, some_arguments, arguments, Derives, integer_leaf, character_leaf, string_leaf, boolean_leaf, symbol_leaf, name_leaf, bracket_leaf, leaf_operand, call_operand, element_operand, member_operand, operand_signed, negative_signed, minus_signed, tilde_signed, signed_level, up_level, operation_level, level_expression, assignment_expression, keyword_argument, value_argument, one_argument, more_arguments, no_arguments, all_arguments, head, Catches, for_head, brackets, signature}
 use Rattle.dy_rules.specs.Reading.{Outer, whole, operated, under, assigned, Part, State, wants, counted, has, dotted, reduced, finished, under_sign, integer_part, name_if, at_operand, operates, assigns_to, behind, member_if, behind_dot, at_token, in_brackets, indexed, called, group_behind, group_at_operand, at_group, finished_part, tree_of, Passing, nothing_passed, passes_next, symbol_first, passing, argument_of, with_last, arguments_in, arguments_at_end, fresh_role, fresh, at_comma, at_separator, or_else, after_item, in_value, by_symbol, after_argument, after_all, after_passing, expression_items, passed_items}
@@ -20,8 +29,8 @@ abbrev Fragments : Type 0
 Fragments = List SeenFragment
 
 abbrev pub IsSign : Role → Type 0
-IsSign minus = Unit {0}
-IsSign tilde = Unit {0}
+IsSign roles.Minus = Unit {0}
+IsSign roles.Tilde = Unit {0}
 IsSign _ = ⊥
 
 -- these fragments stand in front of what will be a part of it
@@ -32,7 +41,7 @@ Stands words (operated precedence left sign outer) before =
     × Derives words (level (suc (below precedence)) left) middle × Fits (suc (below precedence)) outer × Stands words outer first
 Stands words (under sign outer) before = (first : Fragments) × (before ≡ first ++ one sign ∷ []) × IsSign (role_of sign) × Stands words outer first
 Stands words (assigned place outer) before =
-    (first : Fragments) × (middle : Fragments) × (sign : Token) × (before ≡ first ++ (middle ++ one sign ∷ [])) × (role_of sign ≡ assigns)
+    (first : Fragments) × (middle : Fragments) × (sign : Token) × (before ≡ first ++ (middle ++ one sign ∷ [])) × (role_of sign ≡ roles.Assigns)
     × Derives words (level 5 place) middle × Ends outer × Stands words outer first
 
 -- a part of this sort ends here
@@ -41,9 +50,9 @@ Stops words sort part Also all = (first : Fragments) × (middle : Fragments) × 
 
 abbrev pub Began : Splitting → State → Fragments → Type 0
 Began words (wants outer) all = Stands words outer all
-Began words (counted digits outer) all = (first : Fragments) × (all ≡ first ++ one digits ∷ []) × (role_of digits ≡ integer) × Stands words outer first
+Began words (counted digits outer) all = (first : Fragments) × (all ≡ first ++ one digits ∷ []) × (role_of digits ≡ roles.Integer) × Stands words outer first
 Began words (has tree outer) all = Stops words operand (tree, outer) (λ middle. is_integer middle ≡ false) all
-Began words (dotted tree outer) all = (first : Fragments) × (middle : Fragments) × (point : Token) × (all ≡ first ++ (middle ++ one point ∷ [])) × (role_of point ≡ dot) × Derives words (operand tree) middle × Stands words outer first
+Began words (dotted tree outer) all = (first : Fragments) × (middle : Fragments) × (point : Token) × (all ≡ first ++ (middle ++ one point ∷ [])) × (role_of point ≡ roles.Dot) × Derives words (operand tree) middle × Stands words outer first
 
 abbrev pub BeganIf : Splitting → Option State → Fragments → Type 0
 BeganIf words None all = Unit {0}
@@ -82,14 +91,14 @@ reduce_level words height tree (operated precedence left sign outer) low before 
     (reduce_level words height (operation precedence left sign tree) outer (suc (below precedence)) first (front ++ one sign ∷ middle) whole_level (ltb-true (below precedence) height e) looser rest))
     (λ e. (before, middle, refl, raised words low height tree middle le h, ltb-false (below precedence) height e, s))
 
-sign_is : (words : Splitting) (role : Role) (sign : Token) (tree : Tree) (middle : Fragments) → role_of sign ≡ role → IsSign role → (role ≡ minus → is_integer middle ≡ false) → Derives words (signed tree) middle → Derives words (signed (unary sign tree)) (one sign ∷ middle)
-sign_is words minus sign tree middle e is alone h = minus_signed words sign tree middle e (alone refl) h
-sign_is words tilde sign tree middle e is alone h = tilde_signed words sign tree middle e h
+sign_is : (words : Splitting) (role : Role) (sign : Token) (tree : Tree) (middle : Fragments) → role_of sign ≡ role → IsSign role → (role ≡ roles.Minus → is_integer middle ≡ false) → Derives words (signed tree) middle → Derives words (signed (unary sign tree)) (one sign ∷ middle)
+sign_is words roles.Minus sign tree middle e is alone h = minus_signed words sign tree middle e (alone refl) h
+sign_is words roles.Tilde sign tree middle e is alone h = tilde_signed words sign tree middle e h
 sign_is words role sign tree middle e is alone h = absurd is
 
 sign_no_integer : (role : Role) → IsSign role → is_integer_role role ≡ false
-sign_no_integer minus is = refl
-sign_no_integer tilde is = refl
+sign_no_integer roles.Minus is = refl
+sign_no_integer roles.Tilde is = refl
 sign_no_integer role is = absurd is
 
 under_no_integer : (sign : Token) (middle : Fragments) → IsSign (role_of sign) → is_integer (one sign ∷ middle) ≡ false
@@ -120,11 +129,11 @@ reduce_part words height part all (first, middle, parts, h, alone, s) =
 
 fits_ends : (outer : Outer) → Fits 5 outer → Ends outer
 fits_ends whole h = tt
-fits_ends (operated power left sign outer) h = absurd (omega arith)
-fits_ends (operated product left sign outer) h = absurd (omega arith)
-fits_ends (operated sum left sign outer) h = absurd (omega arith)
-fits_ends (operated comparison left sign outer) h = absurd (omega arith)
-fits_ends (operated logical left sign outer) h = absurd (omega arith)
+fits_ends (operated precedences.Power left sign outer) h = absurd (omega arith)
+fits_ends (operated precedences.Product left sign outer) h = absurd (omega arith)
+fits_ends (operated precedences.Sum left sign outer) h = absurd (omega arith)
+fits_ends (operated precedences.Comparison left sign outer) h = absurd (omega arith)
+fits_ends (operated precedences.Logical left sign outer) h = absurd (omega arith)
 fits_ends (under sign outer) h = absurd h
 fits_ends (assigned place outer) h = tt
 
@@ -151,18 +160,18 @@ SignedEnds words part all = Stops words signed part (λ middle. NoNegative part.
 abbrev OperandEnds : Splitting → Part → Fragments → Type 0
 OperandEnds words part all = Stops words operand part (λ middle. Unit {0}) all
 
-integer_signed : (words : Splitting) (digits : Token) → role_of digits ≡ integer → Derives words (signed (literal (positive digits))) (one digits ∷ [])
+integer_signed : (words : Splitting) (digits : Token) → role_of digits ≡ roles.Integer → Derives words (signed (literal (positive digits))) (one digits ∷ [])
 integer_signed words digits is = operand_signed words (literal (positive digits)) (one digits ∷ []) (leaf_operand words (literal (positive digits)) (one digits ∷ []) (integer_leaf words digits is))
 
-under_part : (words : Splitting) (role : Role) (sign digits : Token) (outer : Outer) (before : Fragments) → role_of sign ≡ role → role_of digits ≡ integer → Stands words (under sign outer) before → SignedEnds words (under_sign role sign digits outer) (before ++ one digits ∷ [])
-under_part words minus sign digits outer before e is s =
+under_part : (words : Splitting) (role : Role) (sign digits : Token) (outer : Outer) (before : Fragments) → role_of sign ≡ role → role_of digits ≡ roles.Integer → Stands words (under sign outer) before → SignedEnds words (under_sign role sign digits outer) (before ++ one digits ∷ [])
+under_part words roles.Minus sign digits outer before e is s =
     let (first, parts, signs, rest) = s in
     (first, one sign ∷ one digits ∷ [], rw parts (simp append_assoc), negative_signed words sign digits e is, no_negative outer (one sign ∷ one digits ∷ []) refl, rest)
-under_part words tilde sign digits outer before e is s = (before, one digits ∷ [], refl, integer_signed words digits is, (λ f. let g = sym e ∙ f in absurd cc), s)
+under_part words roles.Tilde sign digits outer before e is s = (before, one digits ∷ [], refl, integer_signed words digits is, (λ f. let g = sym e ∙ f in absurd cc), s)
 under_part words role sign digits outer before e is s =
     let (first, parts, signs, rest) = s in absurd (subst IsSign e signs)
 
-counted_part : (words : Splitting) (digits : Token) (outer : Outer) (before : Fragments) → role_of digits ≡ integer → Stands words outer before → SignedEnds words (integer_part digits outer) (before ++ one digits ∷ [])
+counted_part : (words : Splitting) (digits : Token) (outer : Outer) (before : Fragments) → role_of digits ≡ roles.Integer → Stands words outer before → SignedEnds words (integer_part digits outer) (before ++ one digits ∷ [])
 counted_part words digits whole before is s = (before, one digits ∷ [], refl, integer_signed words digits is, tt, s)
 counted_part words digits (operated precedence left sign outer) before is s = (before, one digits ∷ [], refl, integer_signed words digits is, tt, s)
 counted_part words digits (assigned place outer) before is s = (before, one digits ∷ [], refl, integer_signed words digits is, tt, s)
@@ -190,19 +199,19 @@ tree_sound words (dotted read outer) tree all s e = absurd cc
 leaf_sound : (words : Splitting) (tree : Tree) (outer : Outer) (fragment : SeenFragment) (before : Fragments) → Derives words (leaf tree) (fragment ∷ []) → is_integer (fragment ∷ []) ≡ false → Stands words outer before → Began words (has tree outer) (before ++ fragment ∷ [])
 leaf_sound words tree outer fragment before h alone s = (before, fragment ∷ [], refl, leaf_operand words tree (fragment ∷ []) h, alone, s)
 
-name_sound : (words : Splitting) (splitting : Bool) (outer : Outer) (token : Token) (before : Fragments) → splits words token ≡ splitting → role_of token ≡ named → Stands words outer before → BeganIf words (name_if splitting token outer) (before ++ one token ∷ [])
+name_sound : (words : Splitting) (splitting : Bool) (outer : Outer) (token : Token) (before : Fragments) → splits words token ≡ splitting → role_of token ≡ roles.Named → Stands words outer before → BeganIf words (name_if splitting token outer) (before ++ one token ∷ [])
 name_sound words true outer token before plain is s = tt
 name_sound words false outer token before plain is s = leaf_sound words (name token) outer (one token) before (name_leaf words token is plain) (rw is refl) s
 
 at_operand_sound : (words : Splitting) (role : Role) (outer : Outer) (token : Token) (before : Fragments) → role_of token ≡ role → Stands words outer before → BeganIf words (at_operand words outer token role) (before ++ one token ∷ [])
-at_operand_sound words integer outer token before is s = (before, refl, is, s)
-at_operand_sound words character outer token before is s = leaf_sound words (literal (literals.Char token)) outer (one token) before (character_leaf words token is) (rw is refl) s
-at_operand_sound words string outer token before is s = leaf_sound words (literal (literals.Str token)) outer (one token) before (string_leaf words token is) (rw is refl) s
-at_operand_sound words boolean outer token before is s = leaf_sound words (literal (literals.Bool token)) outer (one token) before (boolean_leaf words token is) (rw is refl) s
-at_operand_sound words symbol outer token before is s = leaf_sound words (literal (literals.Symbol token)) outer (one token) before (symbol_leaf words token is) (rw is refl) s
-at_operand_sound words named outer token before is s = name_sound words (splits words token) outer token before refl is s
-at_operand_sound words minus outer token before is s = (before, refl, rw is tt, s)
-at_operand_sound words tilde outer token before is s = (before, refl, rw is tt, s)
+at_operand_sound words roles.Integer outer token before is s = (before, refl, is, s)
+at_operand_sound words roles.Character outer token before is s = leaf_sound words (literal (literals.Char token)) outer (one token) before (character_leaf words token is) (rw is refl) s
+at_operand_sound words roles.Text outer token before is s = leaf_sound words (literal (literals.Str token)) outer (one token) before (string_leaf words token is) (rw is refl) s
+at_operand_sound words roles.Boolean outer token before is s = leaf_sound words (literal (literals.Bool token)) outer (one token) before (boolean_leaf words token is) (rw is refl) s
+at_operand_sound words roles.Symbol outer token before is s = leaf_sound words (literal (literals.Symbol token)) outer (one token) before (symbol_leaf words token is) (rw is refl) s
+at_operand_sound words roles.Named outer token before is s = name_sound words (splits words token) outer token before refl is s
+at_operand_sound words roles.Minus outer token before is s = (before, refl, rw is tt, s)
+at_operand_sound words roles.Tilde outer token before is s = (before, refl, rw is tt, s)
 at_operand_sound words role outer token before is s = tt
 
 ends_with : (all first middle : Fragments) (last : SeenFragment) → all ≡ first ++ middle → all ++ last ∷ [] ≡ first ++ (middle ++ last ∷ [])
@@ -214,16 +223,16 @@ operates_sound words precedence token part all is s =
     let (first, middle, parts, h, fits, rest) = reduce_part words (suc (below precedence)) part all s in
     (first, middle, ends_with all first middle (one token) parts, is, h, fits, rest)
 
-assigns_sound : (words : Splitting) (token : Token) (part : Part) (all : Fragments) → role_of token ≡ assigns → SignedEnds words part all → Began words (assigns_to (reduced 5 part.0 part.1)) (all ++ one token ∷ [])
+assigns_sound : (words : Splitting) (token : Token) (part : Part) (all : Fragments) → role_of token ≡ roles.Assigns → SignedEnds words part all → Began words (assigns_to (reduced 5 part.0 part.1)) (all ++ one token ∷ [])
 assigns_sound words token part all is s =
     let (first, middle, parts, h, fits, rest) = reduce_part words 5 part all s in
     (first, middle, token, ends_with all first middle (one token) parts, is, h, fits_ends (reduced 5 part.0 part.1).1 fits, rest)
 
 behind_sound : (words : Splitting) (role : Role) (alone part : Part) (token : Token) (all : Fragments) → role_of token ≡ role → OperandEnds words alone all → SignedEnds words part all → BeganIf words (behind alone part token role) (all ++ one token ∷ [])
-behind_sound words (operator precedence) alone part token all is o s = operates_sound words precedence token part all (rw is refl) s
-behind_sound words minus alone part token all is o s = operates_sound words sum token part all (rw is refl) s
-behind_sound words assigns alone part token all is o s = assigns_sound words token part all is s
-behind_sound words dot alone part token all is (first, middle, parts, h, x, rest) s = (first, middle, token, rw parts (simp append_assoc), is, h, rest)
+behind_sound words (roles.Operator precedence) alone part token all is o s = operates_sound words precedence token part all (rw is refl) s
+behind_sound words roles.Minus alone part token all is o s = operates_sound words precedences.Sum token part all (rw is refl) s
+behind_sound words roles.Assigns alone part token all is o s = assigns_sound words token part all is s
+behind_sound words roles.Dot alone part token all is (first, middle, parts, h, x, rest) s = (first, middle, token, rw parts (simp append_assoc), is, h, rest)
 behind_sound words role alone part token all is o s = tt
 
 two_fragments : (first second : SeenFragment) (rest : Fragments) → is_integer (first ∷ second ∷ rest) ≡ false
@@ -235,13 +244,13 @@ longer [] first last = two_fragments first last []
 longer (x ∷ []) first last = two_fragments x first (last ∷ [])
 longer (x ∷ y ∷ front) first last = two_fragments x y (front ++ first ∷ last ∷ [])
 
-member_sound : (words : Splitting) (splitting : Bool) (tree : Tree) (outer : Outer) (token : Token) (all : Fragments) → splits words token ≡ splitting → role_of token ≡ named → Began words (dotted tree outer) all → BeganIf words (member_if splitting tree outer token) (all ++ one token ∷ [])
+member_sound : (words : Splitting) (splitting : Bool) (tree : Tree) (outer : Outer) (token : Token) (all : Fragments) → splits words token ≡ splitting → role_of token ≡ roles.Named → Began words (dotted tree outer) all → BeganIf words (member_if splitting tree outer token) (all ++ one token ∷ [])
 member_sound words true tree outer token all plain is s = tt
 member_sound words false tree outer token all plain is (first, middle, point, parts, is_dot, h, rest) =
     (first, middle ++ one point ∷ one token ∷ [], rw parts (simp append_assoc), member_operand words tree point token middle (middle ++ one point ∷ one token ∷ []) refl is_dot is plain h, longer middle (one point) (one token), rest)
 
 behind_dot_sound : (words : Splitting) (role : Role) (tree : Tree) (outer : Outer) (token : Token) (all : Fragments) → role_of token ≡ role → Began words (dotted tree outer) all → BeganIf words (behind_dot words tree outer token role) (all ++ one token ∷ [])
-behind_dot_sound words named tree outer token all is s = member_sound words (splits words token) tree outer token all refl is s
+behind_dot_sound words roles.Named tree outer token all is s = member_sound words (splits words token) tree outer token all refl is s
 behind_dot_sound words role tree outer token all is s = tt
 
 pub token_sound : (words : Splitting) (state : State) (token : Token) (all : Fragments) → Began words state all → BeganIf words (at_token words state token) (all ++ one token ∷ [])
@@ -253,14 +262,14 @@ token_sound words (dotted tree outer) token all s = behind_dot_sound words (role
 -- the arguments that were read inside of a group
 abbrev pub InnerArguments : Option (List Argument) → Fragments → Type 0
 InnerArguments None inner = Unit {0}
-InnerArguments (Some passed) inner = Derives nothing (arguments passed) inner
+InnerArguments (Some passed) inner = Derives splittings.Nothing (arguments passed) inner
 
 -- what the tree of a group is
 abbrev pub Holds : Bracket → Tree → Token → SeenFragments → Token → Type 0
-Holds round tree opener inner closer = Derives nothing (expression tree) (row inner)
-Holds square tree opener inner closer = Derives nothing (expression tree) (row inner)
-Holds hidden tree opener inner closer = Derives nothing (expression tree) (row inner)
-Holds special tree opener inner closer = Unit {0}
+Holds enclosures.Round tree opener inner closer = Derives splittings.Nothing (expression tree) (row inner)
+Holds enclosures.Square tree opener inner closer = Derives splittings.Nothing (expression tree) (row inner)
+Holds enclosures.Hidden tree opener inner closer = Derives splittings.Nothing (expression tree) (row inner)
+Holds enclosures.Special tree opener inner closer = Unit {0}
 Holds _ tree opener inner closer = (words : Splitting) → Derives words (leaf tree) (group opener inner closer ∷ [])
 
 abbrev pub HoldsIf : Bracket → Option Tree → Token → SeenFragments → Token → Type 0
@@ -277,16 +286,16 @@ holds_some bracket found opener inner closer h tree e = subst (λ (o : Option Tr
 
 group_at_operand_sound : (words : Splitting) (bracket : Bracket) (outer : Outer) (found : Option Tree) (opener : Token) (inner : SeenFragments) (closer : Token) (before : Fragments) → bracket_of opener closer ≡ bracket → HoldsIf bracket found opener inner closer → Stands words outer before
     → BeganIf words (group_at_operand outer bracket found) (before ++ group opener inner closer ∷ [])
-group_at_operand_sound words round outer found opener inner closer before is h s =
-    group_leaf_sound words outer found (group opener inner closer) before refl (λ tree e. bracket_leaf words tree opener inner closer (rw is tt) (holds_some round found opener inner closer h tree e)) s
-group_at_operand_sound words hidden outer found opener inner closer before is h s =
-    group_leaf_sound words outer found (group opener inner closer) before refl (λ tree e. bracket_leaf words tree opener inner closer (rw is tt) (holds_some hidden found opener inner closer h tree e)) s
-group_at_operand_sound words sharp_round outer found opener inner closer before is h s =
-    group_leaf_sound words outer found (group opener inner closer) before refl (λ tree e. holds_some sharp_round found opener inner closer h tree e words) s
-group_at_operand_sound words sharp_square outer found opener inner closer before is h s =
-    group_leaf_sound words outer found (group opener inner closer) before refl (λ tree e. holds_some sharp_square found opener inner closer h tree e words) s
-group_at_operand_sound words (statement kind) outer found opener inner closer before is h s =
-    group_leaf_sound words outer found (group opener inner closer) before refl (λ tree e. holds_some (statement kind) found opener inner closer h tree e words) s
+group_at_operand_sound words enclosures.Round outer found opener inner closer before is h s =
+    group_leaf_sound words outer found (group opener inner closer) before refl (λ tree e. bracket_leaf words tree opener inner closer (rw is tt) (holds_some enclosures.Round found opener inner closer h tree e)) s
+group_at_operand_sound words enclosures.Hidden outer found opener inner closer before is h s =
+    group_leaf_sound words outer found (group opener inner closer) before refl (λ tree e. bracket_leaf words tree opener inner closer (rw is tt) (holds_some enclosures.Hidden found opener inner closer h tree e)) s
+group_at_operand_sound words enclosures.SharpRound outer found opener inner closer before is h s =
+    group_leaf_sound words outer found (group opener inner closer) before refl (λ tree e. holds_some enclosures.SharpRound found opener inner closer h tree e words) s
+group_at_operand_sound words enclosures.SharpSquare outer found opener inner closer before is h s =
+    group_leaf_sound words outer found (group opener inner closer) before refl (λ tree e. holds_some enclosures.SharpSquare found opener inner closer h tree e words) s
+group_at_operand_sound words (enclosures.Statement kind) outer found opener inner closer before is h s =
+    group_leaf_sound words outer found (group opener inner closer) before refl (λ tree e. holds_some (enclosures.Statement kind) found opener inner closer h tree e words) s
 group_at_operand_sound words bracket outer found opener inner closer before is h s = tt
 
 longer_group : (front : Fragments) (opener : Token) (inner : SeenFragments) (closer : Token) → is_integer (front ++ group opener inner closer ∷ []) ≡ false
@@ -294,13 +303,13 @@ longer_group [] opener inner closer = refl
 longer_group (x ∷ []) opener inner closer = two_fragments x (group opener inner closer) []
 longer_group (x ∷ y ∷ front) opener inner closer = two_fragments x y (front ++ group opener inner closer ∷ [])
 
-called_sound : (words : Splitting) (part : Part) (passed : Option (List Argument)) (opener : Token) (inner : SeenFragments) (closer : Token) (all : Fragments) → bracket_of opener closer ≡ round → InnerArguments passed (row inner) → OperandEnds words part all
+called_sound : (words : Splitting) (part : Part) (passed : Option (List Argument)) (opener : Token) (inner : SeenFragments) (closer : Token) (all : Fragments) → bracket_of opener closer ≡ enclosures.Round → InnerArguments passed (row inner) → OperandEnds words part all
     → BeganIf words (option_map (called part) passed) (all ++ group opener inner closer ∷ [])
 called_sound words part None opener inner closer all is h s = tt
 called_sound words part (Some passed) opener inner closer all is h (first, middle, parts, k, x, rest) =
     (first, middle ++ group opener inner closer ∷ [], rw parts (simp append_assoc), call_operand words part.0 passed middle (middle ++ group opener inner closer ∷ []) opener inner closer refl is k h, longer_group middle opener inner closer, rest)
 
-indexed_sound : (words : Splitting) (part : Part) (found : Option Tree) (opener : Token) (inner : SeenFragments) (closer : Token) (all : Fragments) → bracket_of opener closer ≡ square → HoldsIf square found opener inner closer → OperandEnds words part all
+indexed_sound : (words : Splitting) (part : Part) (found : Option Tree) (opener : Token) (inner : SeenFragments) (closer : Token) (all : Fragments) → bracket_of opener closer ≡ enclosures.Square → HoldsIf enclosures.Square found opener inner closer → OperandEnds words part all
     → BeganIf words (option_map (indexed part opener) found) (all ++ group opener inner closer ∷ [])
 indexed_sound words part None opener inner closer all is h s = tt
 indexed_sound words part (Some index) opener inner closer all is h (first, middle, parts, k, x, rest) =
@@ -308,8 +317,8 @@ indexed_sound words part (Some index) opener inner closer all is h (first, middl
 
 group_behind_sound : (words : Splitting) (bracket : Bracket) (part : Part) (found : Option Tree) (passed : Option (List Argument)) (opener : Token) (inner : SeenFragments) (closer : Token) (all : Fragments)
     → bracket_of opener closer ≡ bracket → HoldsIf bracket found opener inner closer → InnerArguments passed (row inner) → OperandEnds words part all → BeganIf words (group_behind part opener bracket found passed) (all ++ group opener inner closer ∷ [])
-group_behind_sound words round part found passed opener inner closer all is h k s = called_sound words part passed opener inner closer all is k s
-group_behind_sound words square part found passed opener inner closer all is h k s = indexed_sound words part found opener inner closer all is h s
+group_behind_sound words enclosures.Round part found passed opener inner closer all is h k s = called_sound words part passed opener inner closer all is k s
+group_behind_sound words enclosures.Square part found passed opener inner closer all is h k s = indexed_sound words part found opener inner closer all is h s
 group_behind_sound words bracket part found passed opener inner closer all is h k s = tt
 
 pub group_sound : (words : Splitting) (state : State) (found : Option Tree) (passed : Option (List Argument)) (opener : Token) (inner : SeenFragments) (closer : Token) (all : Fragments)
@@ -322,34 +331,34 @@ group_sound words (dotted tree outer) found passed opener inner closer all h k s
 -- what stands in front of an argument
 pub data Front : List Argument → List SeenFragment → Type 0 where
   front_first : Front [] []
-  front_next : (passed : List Argument) (before all : List SeenFragment) (separator : Token) → all ≡ before ++ one separator ∷ [] → role_of separator ≡ comma → Derives nothing (some_arguments passed) before → Front passed all
+  front_next : (passed : List Argument) (before all : List SeenFragment) (separator : Token) → all ≡ before ++ one separator ∷ [] → role_of separator ≡ roles.Comma → Derives splittings.Nothing (some_arguments passed) before → Front passed all
 
 -- what was read of an argument, whatever follows
 abbrev pub Partial : Option Token → State → Fragments → Type 0
-Partial None state middle = Began nothing state middle × ((rest : Fragments) → passes_two (middle ++ rest) ≡ false)
+Partial None state middle = Began splittings.Nothing state middle × ((rest : Fragments) → passes_two (middle ++ rest) ≡ false)
 Partial (Some token) state middle =
-    (first : SeenFragment) × (more : Fragments) × (middle ≡ one token ∷ first ∷ more) × (role_of token ≡ symbol) × (begins_value first ≡ true) × Began nothing state (first ∷ more)
+    (first : SeenFragment) × (more : Fragments) × (middle ≡ one token ∷ first ∷ more) × (role_of token ≡ roles.Symbol) × (begins_value first ≡ true) × Began splittings.Nothing state (first ∷ more)
 
 abbrev pub Passed : Passing → Fragments → Type 0
 Passed nothing_passed all = all ≡ []
 Passed (passes_next passed) all = Front passed all
-Passed (symbol_first passed token) all = (before : Fragments) × (all ≡ before ++ one token ∷ []) × (role_of token ≡ symbol) × Front passed before
+Passed (symbol_first passed token) all = (before : Fragments) × (all ≡ before ++ one token ∷ []) × (role_of token ≡ roles.Symbol) × Front passed before
 Passed (passing passed token state) all = (before : Fragments) × (middle : Fragments) × (all ≡ before ++ middle) × Partial token state middle × Front passed before
 
 abbrev pub PassedIf : Option Passing → Fragments → Type 0
 PassedIf None all = Unit {0}
 PassedIf (Some reader) all = Passed reader all
 
-argument_ends : (passed : List Argument) (last : Argument) (before middle : Fragments) → Front passed before → Derives nothing (argument last) middle → Derives nothing (some_arguments (passed ++ last ∷ [])) (before ++ middle)
+argument_ends : (passed : List Argument) (last : Argument) (before middle : Fragments) → Front passed before → Derives splittings.Nothing (argument last) middle → Derives splittings.Nothing (some_arguments (passed ++ last ∷ [])) (before ++ middle)
 argument_ends passed last before middle front_first h = one_argument last middle h
 argument_ends passed last before middle (front_next others first all separator parts is k) h = more_arguments passed last separator first middle (before ++ middle) (rw parts (simp append_assoc)) is k h
 
-leaf_expression : (tree : Tree) (fragments : Fragments) → Derives nothing (leaf tree) fragments → Derives nothing (expression tree) fragments
-leaf_expression tree fragments h = level_expression nothing tree fragments (raised nothing 0 5 tree fragments (omega arith) (signed_level nothing tree fragments (operand_signed nothing tree fragments (leaf_operand nothing tree fragments h))))
+leaf_expression : (tree : Tree) (fragments : Fragments) → Derives splittings.Nothing (leaf tree) fragments → Derives splittings.Nothing (expression tree) fragments
+leaf_expression tree fragments h = level_expression splittings.Nothing tree fragments (raised splittings.Nothing 0 5 tree fragments (omega arith) (signed_level splittings.Nothing tree fragments (operand_signed splittings.Nothing tree fragments (leaf_operand splittings.Nothing tree fragments h))))
 
-partial_ends : (token : Option Token) (state : State) (tree : Tree) (middle : Fragments) → Partial token state middle → tree_of state ≡ Some tree → Derives nothing (argument (argument_of token tree)) middle
-partial_ends None state tree middle (s, alone) e = value_argument tree middle (subst (λ (fs : Fragments). passes_two fs ≡ false) (append-nil middle) (alone [])) (tree_sound nothing state tree middle s e)
-partial_ends (Some token) state tree middle (first, more, parts, is, begins, s) e = rw parts (keyword_argument token tree (first ∷ more) is (tree_sound nothing state tree (first ∷ more) s e))
+partial_ends : (token : Option Token) (state : State) (tree : Tree) (middle : Fragments) → Partial token state middle → tree_of state ≡ Some tree → Derives splittings.Nothing (argument (argument_of token tree)) middle
+partial_ends None state tree middle (s, alone) e = value_argument tree middle (subst (λ (fs : Fragments). passes_two fs ≡ false) (append-nil middle) (alone [])) (tree_sound splittings.Nothing state tree middle s e)
+partial_ends (Some token) state tree middle (first, more, parts, is, begins, s) e = rw parts (keyword_argument token tree (first ∷ more) is (tree_sound splittings.Nothing state tree (first ∷ more) s e))
 
 tree_or : (state : State) (P : Option Tree → Type 0) → P None → ((tree : Tree) → tree_of state ≡ Some tree → P (Some tree)) → P (tree_of state)
 tree_or state P none some = go (tree_of state) refl
@@ -360,14 +369,14 @@ tree_or state P none some = go (tree_of state) refl
 
 abbrev SomeArguments : Option (List Argument) → Fragments → Type 0
 SomeArguments None all = Unit {0}
-SomeArguments (Some passed) all = Derives nothing (some_arguments passed) all
+SomeArguments (Some passed) all = Derives splittings.Nothing (some_arguments passed) all
 
 arguments_in_sound : (reader : Passing) (all : Fragments) → Passed reader all → SomeArguments (arguments_in reader) all
 arguments_in_sound nothing_passed all s = tt
 arguments_in_sound (passes_next passed) all s = tt
 arguments_in_sound (symbol_first passed token) all (before, parts, is, front) =
     rw parts (argument_ends passed (value (literal (literals.Symbol token))) before (one token ∷ []) front
-    (value_argument (literal (literals.Symbol token)) (one token ∷ []) refl (leaf_expression (literal (literals.Symbol token)) (one token ∷ []) (symbol_leaf nothing token is))))
+    (value_argument (literal (literals.Symbol token)) (one token ∷ []) refl (leaf_expression (literal (literals.Symbol token)) (one token ∷ []) (symbol_leaf splittings.Nothing token is))))
 arguments_in_sound (passing passed token state) all (before, middle, parts, s, front) =
     tree_or state (λ found. SomeArguments (option_map (with_last passed token) found) all) tt
     (λ tree e. rw parts (argument_ends passed (argument_of token tree) before middle front (partial_ends token state tree middle s e)))
@@ -398,7 +407,7 @@ or_else_is P None others h k = k
 or_else_is P (Some x) others h k = h
 
 comma_sound : (role : Role) (reader : Passing) (token : Token) (all : Fragments) → role_of token ≡ role → Passed reader all → PassedIf (at_comma role reader) (all ++ one token ∷ [])
-comma_sound comma reader token all is s = go (arguments_in reader) (arguments_in_sound reader all s)
+comma_sound roles.Comma reader token all is s = go (arguments_in reader) (arguments_in_sound reader all s)
   where
     go : (found : Option (List Argument)) → SomeArguments found all → PassedIf (option_map passes_next found) (all ++ one token ∷ [])
     go None h = tt
@@ -414,7 +423,7 @@ fresh_sound passed (group opener inner closer) before front = tt
 fresh_sound passed (one token) before front = go (role_of token) refl
   where
     go : (role : Role) → role_of token ≡ role → PassedIf (fresh_role role passed token) (before ++ one token ∷ [])
-    go symbol is = (before, refl, is, front)
+    go roles.Symbol is = (before, refl, is, front)
     go role is = tt
 
 -- what is no symbol at the front is passed with nothing
@@ -424,7 +433,7 @@ no_two passed (one token) [] e = refl
 no_two passed (one token) (second ∷ rest) e = go (role_of token) e
   where
     go : (role : Role) → fresh_role role passed token ≡ None → (is_symbol role && begins_value second) ≡ false
-    go symbol f = absurd cc
+    go roles.Symbol f = absurd cc
     go role f = refl
 
 fresh_step : (passed : List Argument) (fragment : SeenFragment) (item : Item) (before : Fragments) → Front passed before → Steps fragment item → PassedIf (or_else (fresh passed fragment) (in_value passed None (wants whole) item)) (before ++ fragment ∷ [])
@@ -433,42 +442,42 @@ fresh_step passed fragment item before front going = go (fresh passed fragment) 
     go : (found : Option Passing) → fresh passed fragment ≡ found → PassedIf found (before ++ fragment ∷ []) → PassedIf (or_else found (in_value passed None (wants whole) item)) (before ++ fragment ∷ [])
     go (Some reader) e h = h
     go None e h =
-        passing_some passed None (after_item nothing (wants whole) item) before (fragment ∷ []) front
-        (λ state f. (began_some nothing (after_item nothing (wants whole) item) (fragment ∷ []) (going nothing (wants whole) [] refl) state f, (λ rest. no_two passed fragment rest e)))
+        passing_some passed None (after_item splittings.Nothing (wants whole) item) before (fragment ∷ []) front
+        (λ state f. (began_some splittings.Nothing (after_item splittings.Nothing (wants whole) item) (fragment ∷ []) (going splittings.Nothing (wants whole) [] refl) state f, (λ rest. no_two passed fragment rest e)))
 
 symbol_step : (begins : Bool) (passed : List Argument) (token : Token) (fragment : SeenFragment) (item : Item) (all : Fragments) → begins_value fragment ≡ begins → Passed (symbol_first passed token) all → Steps fragment item
     → PassedIf (by_symbol begins passed token fragment item) (all ++ fragment ∷ [])
 symbol_step true passed token fragment item all e (before, parts, is, front) going =
     subst (PassedIf (in_value passed (Some token) (wants whole) item)) (joined before all token fragment parts)
-    (passing_some passed (Some token) (after_item nothing (wants whole) item) before (one token ∷ fragment ∷ []) front
-    (λ state f. (fragment, [], refl, is, e, began_some nothing (after_item nothing (wants whole) item) (fragment ∷ []) (going nothing (wants whole) [] refl) state f)))
+    (passing_some passed (Some token) (after_item splittings.Nothing (wants whole) item) before (one token ∷ fragment ∷ []) front
+    (λ state f. (fragment, [], refl, is, e, began_some splittings.Nothing (after_item splittings.Nothing (wants whole) item) (fragment ∷ []) (going splittings.Nothing (wants whole) [] refl) state f)))
   where
     joined : (before all : Fragments) (token : Token) (fragment : SeenFragment) → all ≡ before ++ one token ∷ [] → before ++ one token ∷ fragment ∷ [] ≡ all ++ fragment ∷ []
     joined before all token fragment parts = rw parts (simp append_assoc)
 symbol_step false passed token fragment item all e (before, parts, is, front) going =
     or_else_is (λ found. PassedIf found (all ++ fragment ∷ [])) (in_value passed None (has (literal (literals.Symbol token)) whole) item) (at_separator (symbol_first passed token) fragment)
     (subst (PassedIf (in_value passed None (has (literal (literals.Symbol token)) whole) item)) (joined before all token fragment parts)
-    (passing_some passed None (after_item nothing (has (literal (literals.Symbol token)) whole) item) before (one token ∷ fragment ∷ []) front
-    (λ state f. (began_some nothing (after_item nothing (has (literal (literals.Symbol token)) whole) item) (one token ∷ fragment ∷ []) (going nothing (has (literal (literals.Symbol token)) whole) (one token ∷ []) (symbol_begins token is)) state f, (λ rest. two token is rest)))))
+    (passing_some passed None (after_item splittings.Nothing (has (literal (literals.Symbol token)) whole) item) before (one token ∷ fragment ∷ []) front
+    (λ state f. (began_some splittings.Nothing (after_item splittings.Nothing (has (literal (literals.Symbol token)) whole) item) (one token ∷ fragment ∷ []) (going splittings.Nothing (has (literal (literals.Symbol token)) whole) (one token ∷ []) (symbol_begins token is)) state f, (λ rest. two token is rest)))))
     (separator_sound (symbol_first passed token) fragment all (before, parts, is, front))
   where
     joined : (before all : Fragments) (token : Token) (fragment : SeenFragment) → all ≡ before ++ one token ∷ [] → before ++ one token ∷ fragment ∷ [] ≡ all ++ fragment ∷ []
     joined before all token fragment parts = rw parts (simp append_assoc)
 
-    symbol_begins : (token : Token) → role_of token ≡ symbol → Began nothing (has (literal (literals.Symbol token)) whole) (one token ∷ [])
-    symbol_begins token is = leaf_sound nothing (literal (literals.Symbol token)) whole (one token) [] (symbol_leaf nothing token is) (rw is refl) refl
+    symbol_begins : (token : Token) → role_of token ≡ roles.Symbol → Began splittings.Nothing (has (literal (literals.Symbol token)) whole) (one token ∷ [])
+    symbol_begins token is = leaf_sound splittings.Nothing (literal (literals.Symbol token)) whole (one token) [] (symbol_leaf splittings.Nothing token is) (rw is refl) refl
 
-    two : (token : Token) → role_of token ≡ symbol → (rest : Fragments) → passes_two (one token ∷ fragment ∷ rest) ≡ false
+    two : (token : Token) → role_of token ≡ roles.Symbol → (rest : Fragments) → passes_two (one token ∷ fragment ∷ rest) ≡ false
     two token is rest = rw (is, e) refl
 
 value_step : (passed : List Argument) (token : Option Token) (state : State) (fragment : SeenFragment) (item : Item) (before middle : Fragments) → Front passed before → Partial token state middle → Steps fragment item
     → PassedIf (in_value passed token state item) (before ++ (middle ++ fragment ∷ []))
 value_step passed None state fragment item before middle front (s, alone) going =
-    passing_some passed None (after_item nothing state item) before (middle ++ fragment ∷ []) front
-    (λ next f. (began_some nothing (after_item nothing state item) (middle ++ fragment ∷ []) (going nothing state middle s) next f, (λ rest. ap passes_two (append_assoc middle (fragment ∷ []) rest) ∙ alone (fragment ∷ rest))))
+    passing_some passed None (after_item splittings.Nothing state item) before (middle ++ fragment ∷ []) front
+    (λ next f. (began_some splittings.Nothing (after_item splittings.Nothing state item) (middle ++ fragment ∷ []) (going splittings.Nothing state middle s) next f, (λ rest. ap passes_two (append_assoc middle (fragment ∷ []) rest) ∙ alone (fragment ∷ rest))))
 value_step passed (Some token) state fragment item before middle front (first, more, parts, is, begins, s) going =
-    passing_some passed (Some token) (after_item nothing state item) before (middle ++ fragment ∷ []) front
-    (λ next f. (first, more ++ fragment ∷ [], rw parts refl, is, begins, began_some nothing (after_item nothing state item) (first ∷ more ++ fragment ∷ []) (going nothing state (first ∷ more) s) next f))
+    passing_some passed (Some token) (after_item splittings.Nothing state item) before (middle ++ fragment ∷ []) front
+    (λ next f. (first, more ++ fragment ∷ [], rw parts refl, is, begins, began_some splittings.Nothing (after_item splittings.Nothing state item) (first ∷ more ++ fragment ∷ []) (going splittings.Nothing state (first ∷ more) s) next f))
 
 argument_step : (reader : Passing) (fragment : SeenFragment) (item : Item) (all : Fragments) → Passed reader all → Steps fragment item → PassedIf (after_argument reader fragment item) (all ++ fragment ∷ [])
 argument_step nothing_passed fragment item all s going = rw s (fresh_step [] fragment item [] front_first going)
@@ -484,11 +493,11 @@ argument_step (passing passed token state) fragment item all (before, middle, pa
 
 -- the class and the bounds of a limited type
 abbrev pub LimitsAre : Limits → Fragments → Type 0
-LimitsAre limits fragments = (after : Fragments) × (fragments ≡ one limits.class ∷ after) × (role_of limits.class ≡ named) × (is_same (codes "<integer>") limits.class.text ≡ true) × AreBounds limits.bounds after
+LimitsAre limits fragments = (after : Fragments) × (fragments ≡ one limits.class ∷ after) × (role_of limits.class ≡ roles.Named) × (is_spelled (codes "<integer>") limits.class ≡ true) × AreBounds limits.bounds after × (each_once limits.bounds ≡ true)
 
 -- a name, and behind it a method
 abbrev pub NamedIs : NamedFound → Fragments → Type 0
-NamedIs named_method fragments = (after : Fragments) × (fragments ≡ one named_method.token ∷ after) × (role_of named_method.token ≡ named) × Derives nothing (signature named_method.method.found named_method.method.results named_method.method.trees) after
+NamedIs named_method fragments = (after : Fragments) × (fragments ≡ one named_method.token ∷ after) × (role_of named_method.token ≡ roles.Named) × Derives splittings.Nothing (signature named_method.method.found named_method.method.results named_method.method.trees) after
 
 -- what was read inside of a group, in each way
 pub record InsideSound (inner : List SeenFragment) (found : Found) : Type 0 where
@@ -496,12 +505,12 @@ pub record InsideSound (inner : List SeenFragment) (found : Found) : Type 0 wher
   pub limits_are : (limits : Limits) → found.limits ≡ Some limits → LimitsAre limits inner
   pub bound_are : (bound : Ending VariableTree Token) → found.bound ≡ Some bound → Bind bound.parts bound.last inner
   pub given_are : (given : Ending VariableTree VariableTree) → found.given ≡ Some given → Give given.parts given.last inner
-  pub listed_is : (entries : Listed) → found.listed ≡ Some entries → Derives nothing (brackets entries) inner
-  pub method_is : (method : MethodFound) → found.method ≡ Some method → Derives nothing (signature method.found method.results method.trees) inner
+  pub listed_is : (entries : Listed) → found.listed ≡ Some entries → Derives splittings.Nothing (brackets entries) inner
+  pub method_is : (method : MethodFound) → found.method ≡ Some method → Derives splittings.Nothing (signature method.found method.results method.trees) inner
   pub named_is : (method : NamedFound) → found.named_method ≡ Some method → NamedIs method inner
   pub caught_is : (caught : Caught) → found.caught ≡ Some caught → Catches caught.variable caught.condition inner
-  pub clauses_are : (clauses : Ending ForClause StopTree) → found.clauses ≡ Some clauses → Derives steps (for_head clauses.parts clauses.last) inner
-  pub head_is : (found_head : Head) → found.head ≡ Some found_head → Derives tests (head found_head.selected found_head.test) inner
+  pub clauses_are : (clauses : Ending ForClause StopTree) → found.clauses ≡ Some clauses → Derives splittings.Steps (for_head clauses.parts clauses.last) inner
+  pub head_is : (found_head : Head) → found.head ≡ Some found_head → Derives splittings.Tests (head found_head.selected found_head.test) inner
 
 abbrev pub GroupSound : SeenFragment → Found → Type 0
 GroupSound (one token) found = Unit {0}

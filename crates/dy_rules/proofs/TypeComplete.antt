@@ -7,10 +7,18 @@ use Rattle.dy_tree.specs.declared.token.Token.{Token}
 use Rattle.dy_tree.specs.declared.types.IntegerForm.{IntegerForm}
 use Rattle.dy_tree.specs.declared.types.LiteralForm.{LiteralForm}
 use Rattle.dy_tree.specs.Fragments.{SeenFragment, one, group, SeenFragments, no_fragment, fragment_and, row}
-use Rattle.dy_rules.specs.Roles.{Role, boolean, named, colons, comma, other, role_by, role_of, Bracket, round, square, hidden, sharp_round, sharp_square, statement, special, bracket_of, is_same, is_among}
+use Rattle.dy_tree.specs.declared.roles.Role.{Role}
+use Rattle.dy_tree.specs.declared.roles.Role.TheVariants as roles
+use Rattle.dy_tree.specs.declared.brackets.Bracket.{Bracket}
+use Rattle.dy_tree.specs.declared.brackets.Bracket.TheVariants as brackets
+use Rattle.dy_tree.specs.declared.type_words.TypeWord.{TypeWord}
+use Rattle.dy_tree.specs.declared.type_words.TypeWord.TheVariants as type_words
+use Rattle.dy_tree.specs.Spelling.{is_spelled}
+use Rattle.dy_rules.specs.Roles.{role_by, role_of, bracket_of, is_among}
 use Rattle.dy_rules.specs.Constants.{token_literal, one_token, negative_integer}
 use Rattle.dy_rules.specs.Arguments.{is_comma, is_comma_fragment}
-use Rattle.dy_rules.specs.Types.{is_mark_kind, is_symbol_kind, is_mark, Single, literal_single, IsSingle, of_literal, of_empty_list, of_name, Bound, is_bound, IsInteger, plain_number, negative_number, AreBounds, no_bound, bound_and, TypeTree, named_type, singleton_type, limited_type, TypeWord, singleton_word, union_word, limited_word, no_type_word, type_word, TypeSort, a_type, some_types, IsType, by_name, by_singleton, by_union, by_limits, one_type, more_types, is_round, begins_round, is_type_word, takes_brackets, VariableTree, declares_brackets, IsVariable, untyped, typed, Bind, last_bound, rest_bound, more_bound, TargetTree, one_target, IsTarget, by_variable, by_nothing, by_brackets, is_colons_role, variable_apart, begins_with}
+use Rattle.dy_rules.specs.Tests.{only_if, if_passes}
+use Rattle.dy_rules.specs.Types.{is_mark_kind, is_symbol_kind, is_mark, Single, literal_single, IsSingle, of_literal, of_empty_list, of_name, Bound, is_bound, IsInteger, plain_number, negative_number, each_once, AreBounds, no_bound, bound_and, TypeTree, named_type, singleton_type, limited_type, type_word, TypeSort, a_type, some_types, IsType, by_name, by_singleton, by_union, by_limits, one_type, more_types, is_round, begins_round, is_type_word, takes_brackets, VariableTree, declares_brackets, IsVariable, untyped, typed, Bind, last_bound, rest_bound, more_bound, TargetTree, one_target, IsTarget, by_variable, by_nothing, by_brackets, is_colons_role, variable_apart, begins_with}
 use Rattle.dy_rules.specs.Cutting.{Ending, Item, Piece, is_let_role, is_let, cut, each_other, with_others, fragments_in}
 use Rattle.dy_rules.specs.TypeReading.{single_token, single_group, single_in, integer_in, bound_of, bound_if, bound_in, bound_items, is_integer_class, limits_of, limits_if, limits_in, limits_pieces, limits_items, TypeFront, in_front, union_of, limited_of, form_type, word_front, group_front, front_behind, type_from, type_named, type_front, whole_type, type_items, types_items, VariableFront, untyped_front, typed_front, is_colons, variable_if, variable_from, variable_named, variable_front, whole_variable, variable_items, marked, name_items, bind_items, several_of, target_in, target_if, target_items}
 use Rattle.dy_rules.specs.Fragments.{item_of, items_of, items_in, found_in}
@@ -22,7 +30,7 @@ abbrev Fragments : Type 0
 Fragments = List SeenFragment
 
 single_token_reads : (role : Role) (token : Token) (form : LiteralForm) → token_literal role token ≡ Some form → single_token role token ≡ Some (literal_single form)
-single_token_reads named token form e = absurd cc
+single_token_reads roles.Named token form e = absurd cc
 single_token_reads role token form e = ap (option_map literal_single) e
 
 pub single_complete : (single : Single) (fragments : Fragments) → IsSingle single fragments → single_in fragments ≡ Some single
@@ -37,8 +45,8 @@ integer_complete number fragments (negative_number sign digits is also) = rw (is
 
 -- a fragment of a type or of a variable
 abbrev pub quiet_role : Role → Bool
-quiet_role named = true
-quiet_role colons = true
+quiet_role roles.Named = true
+quiet_role roles.Colons = true
 quiet_role _ = false
 
 abbrev pub is_quiet : SeenFragment → Bool
@@ -53,7 +61,7 @@ quiet_no_comma : (fragment : SeenFragment) → is_quiet fragment ≡ true → is
 quiet_no_comma (one token) e = go (role_of token) e
   where
     go : (role : Role) → quiet_role role ≡ true → is_comma role ≡ false
-    go comma f = absurd cc
+    go roles.Comma f = absurd cc
     go role f = refl
 quiet_no_comma (group opener inner closer) e = refl
 
@@ -61,8 +69,8 @@ pub quiet_no_let : (fragment : SeenFragment) → is_quiet fragment ≡ true → 
 quiet_no_let (one token) e = go (role_of token) e
   where
     go : (role : Role) → quiet_role role ≡ true → is_let_role role ≡ false
-    go named f = refl
-    go colons f = refl
+    go roles.Named f = refl
+    go roles.Colons f = refl
     go role f = absurd cc
 quiet_no_let (group opener inner closer) e = refl
 
@@ -81,13 +89,13 @@ pub type_quiet : (type : TypeTree) (fragments : Fragments) → IsType (a_type ty
 type_quiet type fragments (by_name token is) = (rw is refl, tt)
 type_quiet type fragments (by_singleton word single opener inner closer role is is_round_bracket h) = (rw role refl, (refl, tt))
 type_quiet type fragments (by_union word types opener inner closer role is is_round_bracket h) = (rw role refl, (refl, tt))
-type_quiet type fragments (by_limits word class bounds opener inner closer after role is is_round_bracket parts class_role text h) = (rw role refl, (refl, tt))
+type_quiet type fragments (by_limits word class bounds opener inner closer after role is is_round_bracket parts class_role text h once) = (rw role refl, (refl, tt))
 
 pub variable_quiet : (variable : VariableTree) (fragments : Fragments) → IsVariable variable fragments → Quiet fragments
 variable_quiet variable fragments (untyped token is) = (rw is refl, tt)
 variable_quiet variable fragments (typed token sign type after is colon h) = (rw is refl, (rw colon refl, type_quiet type after h))
 
-pub comma_separates : (token : Token) → role_of token ≡ comma → is_comma_fragment (one token) ≡ true
+pub comma_separates : (token : Token) → role_of token ≡ roles.Comma → is_comma_fragment (one token) ≡ true
 comma_separates token is = rw is refl
 
 -- numbers are no separators either
@@ -98,7 +106,7 @@ integer_closed number fragments (negative_number sign digits is also) = (rw is r
 bound_role : (token : Token) → is_bound token ≡ true → (is_comma_fragment (one token) ≡ false) × (is_let (one token) ≡ false)
 bound_role token e = go token.kind e
   where
-    go : (kind : TokenKind) → ((is_symbol_kind kind && is_same (codes "min") token.text) || (is_symbol_kind kind && is_same (codes "max") token.text)) ≡ true → (is_comma (role_by kind token) ≡ false) × (is_let_role (role_by kind token) ≡ false)
+    go : (kind : TokenKind) → ((is_symbol_kind kind && is_spelled (codes "min") token) || (is_symbol_kind kind && is_spelled (codes "max") token)) ≡ true → (is_comma (role_by kind token) ≡ false) × (is_let_role (role_by kind token) ≡ false)
     go kinds.Symbol f = (refl, refl)
     go kind f = absurd cc
 
@@ -134,32 +142,32 @@ bounds_complete bounds fragments (bound_and separator keyword number others digi
       found = ap (λ (o : Option Bound). with_others o (each_other bound_items rest.others)) (bound_reads keyword number digits key_is n) ∙ ap (with_others (Some (bound_of keyword number))) rest.found;
     })
 
-limits_reads : (role : Role) (class : Token) (bounds : List Bound) → role ≡ named → is_same (codes "<integer>") class.text ≡ true → limits_if (is_integer_class role class) class (Some bounds) ≡ Some (limits_of class bounds)
+limits_reads : (role : Role) (class : Token) (bounds : List Bound) → role ≡ roles.Named → is_spelled (codes "<integer>") class ≡ true → limits_if (is_integer_class role class) class (Some bounds) ≡ Some (limits_of class bounds)
 limits_reads role class bounds is text = rw (is, text) refl
 
-limits_complete : (class : Token) (bounds : List Bound) (inner : SeenFragments) (after : Fragments) → row inner ≡ one class ∷ after → role_of class ≡ named → is_same (codes "<integer>") class.text ≡ true → AreBounds bounds after
+limits_complete : (class : Token) (bounds : List Bound) (inner : SeenFragments) (after : Fragments) → row inner ≡ one class ∷ after → role_of class ≡ roles.Named → is_spelled (codes "<integer>") class ≡ true → AreBounds bounds after → each_once bounds ≡ true
     → limits_items (items_in inner) ≡ Some (limits_of class bounds)
-limits_complete class bounds inner after parts is text h =
+limits_complete class bounds inner after parts is text h once =
     let rest = bounds_complete bounds after h in
     ap limits_items (items_row inner ∙ ap items_of parts) ∙ ap limits_pieces (rest.pieces (one class ∷ []) (rw is refl, rw is refl))
-    ∙ ap (limits_in (one class ∷ [])) rest.found ∙ limits_reads (role_of class) class bounds is text
+    ∙ ap (limits_in (one class ∷ [])) (ap (option_and_then (if_passes each_once)) rest.found ∙ ap (λ (b : Bool). only_if b bounds) once) ∙ limits_reads (role_of class) class bounds is text
 
 -- brackets behind a name of the three forms
 word_reads : (form : TypeWord) (word : Token) (inner : SeenFragments) (item : Item) (rest : List Item) (type : TypeTree) → form_type form word inner item.found ≡ Some type → word_front form word inner item rest ≡ Some (in_front rest type)
-word_reads singleton_word word inner item rest type e = ap (option_map (in_front rest)) e
-word_reads union_word word inner item rest type e = ap (option_map (in_front rest)) e
-word_reads limited_word word inner item rest type e = ap (option_map (in_front rest)) e
-word_reads no_type_word word inner item rest type e = absurd cc
+word_reads type_words.Singleton word inner item rest type e = ap (option_map (in_front rest)) e
+word_reads type_words.Union word inner item rest type e = ap (option_map (in_front rest)) e
+word_reads type_words.Limited word inner item rest type e = ap (option_map (in_front rest)) e
+word_reads type_words.Absent word inner item rest type e = absurd cc
 
-form_reads : (bracket : Bracket) (form : TypeWord) (word : Token) (inner : SeenFragments) (item : Item) (rest : List Item) (type : TypeTree) → bracket ≡ round → type_word word ≡ form → form_type form word inner item.found ≡ Some type
+form_reads : (bracket : Bracket) (form : TypeWord) (word : Token) (inner : SeenFragments) (item : Item) (rest : List Item) (type : TypeTree) → bracket ≡ brackets.Round → type_word word ≡ form → form_type form word inner item.found ≡ Some type
     → group_front bracket word inner item rest ≡ Some (in_front rest type)
 form_reads bracket form word inner item rest type is word_is e =
     ap (λ (b : Bracket). group_front b word inner item rest) is ∙ ap (λ (f : TypeWord). word_front f word inner item rest) word_is ∙ word_reads form word inner item rest type e
 
-named_reads : (role : Role) (word : Token) (rest : List Item) (front : TypeFront) → role ≡ named → type_from word rest ≡ Some front → type_named role word rest ≡ Some front
+named_reads : (role : Role) (word : Token) (rest : List Item) (front : TypeFront) → role ≡ roles.Named → type_from word rest ≡ Some front → type_named role word rest ≡ Some front
 named_reads role word rest front is e = rw is e
 
-formed_reads : (form : TypeWord) (word opener : Token) (inner : SeenFragments) (closer : Token) (rest : List Item) (type : TypeTree) → role_of word ≡ named → type_word word ≡ form → bracket_of opener closer ≡ round
+formed_reads : (form : TypeWord) (word opener : Token) (inner : SeenFragments) (closer : Token) (rest : List Item) (type : TypeTree) → role_of word ≡ roles.Named → type_word word ≡ form → bracket_of opener closer ≡ brackets.Round
     → form_type form word inner (found_in (group opener inner closer)) ≡ Some type → type_front (items_of (one word ∷ group opener inner closer ∷ []) ++ rest) ≡ Some (in_front rest type)
 formed_reads form word opener inner closer rest type role is is_round_bracket e =
     named_reads (role_of word) word (item_of (group opener inner closer) ∷ rest) (in_front rest type) role
@@ -167,19 +175,19 @@ formed_reads form word opener inner closer rest type role is is_round_bracket e 
 
 -- a name that takes no brackets
 plain_word : (form : TypeWord) (word : Token) (inner : SeenFragments) (item : Item) (rest : List Item) → (is_type_word form ≡ true → ⊥) → word_front form word inner item rest ≡ Some (in_front (item ∷ rest) (named_type word))
-plain_word no_type_word word inner item rest h = refl
-plain_word singleton_word word inner item rest h = absurd (h refl)
-plain_word union_word word inner item rest h = absurd (h refl)
-plain_word limited_word word inner item rest h = absurd (h refl)
+plain_word type_words.Absent word inner item rest h = refl
+plain_word type_words.Singleton word inner item rest h = absurd (h refl)
+plain_word type_words.Union word inner item rest h = absurd (h refl)
+plain_word type_words.Limited word inner item rest h = absurd (h refl)
 
 plain_group : (bracket : Bracket) (word : Token) (inner : SeenFragments) (item : Item) (rest : List Item) → (is_type_word (type_word word) ≡ true → is_round bracket ≡ false) → group_front bracket word inner item rest ≡ Some (in_front (item ∷ rest) (named_type word))
-plain_group round word inner item rest h = plain_word (type_word word) word inner item rest (λ e. let f = h e in absurd cc)
-plain_group square word inner item rest h = refl
-plain_group hidden word inner item rest h = refl
-plain_group sharp_round word inner item rest h = refl
-plain_group sharp_square word inner item rest h = refl
-plain_group (statement kind) word inner item rest h = refl
-plain_group special word inner item rest h = refl
+plain_group brackets.Round word inner item rest h = plain_word (type_word word) word inner item rest (λ e. let f = h e in absurd cc)
+plain_group brackets.Square word inner item rest h = refl
+plain_group brackets.Hidden word inner item rest h = refl
+plain_group brackets.SharpRound word inner item rest h = refl
+plain_group brackets.SharpSquare word inner item rest h = refl
+plain_group (brackets.Statement kind) word inner item rest h = refl
+plain_group brackets.Special word inner item rest h = refl
 
 plain_behind : (word : Token) (fragment : SeenFragment) (item : Item) (rest : List Item) → (is_type_word (type_word word) ≡ true → begins_round (fragment ∷ fragments_in rest) ≡ false) → front_behind word fragment item rest ≡ Some (in_front (item ∷ rest) (named_type word))
 plain_behind word (one token) item rest h = refl
@@ -199,11 +207,11 @@ whole_type_reads type fragments h = ap (λ (items : List Item). option_and_then 
 pub type_complete : (sort : TypeSort) (fragments : Fragments) → IsType sort fragments → TypeReads sort fragments
 type_complete sort fragments (by_name token is) = λ rest h. named_reads (role_of token) token rest (in_front rest (named_type token)) is (plain_from token rest h)
 type_complete sort fragments (by_singleton word single opener inner closer role is is_round_bracket h) = λ rest k.
-    formed_reads singleton_word word opener inner closer rest (singleton_type word single) role is is_round_bracket (ap (option_map (singleton_type word)) (single_complete single (row inner) h))
+    formed_reads type_words.Singleton word opener inner closer rest (singleton_type word single) role is is_round_bracket (ap (option_map (singleton_type word)) (single_complete single (row inner) h))
 type_complete sort fragments (by_union word types opener inner closer role is is_round_bracket h) = λ rest k.
-    formed_reads union_word word opener inner closer rest (union_of word types) role is is_round_bracket (ap (λ (items : List Item). option_map (union_of word) (types_items items)) (items_row inner) ∙ ap (option_map (union_of word)) (type_complete (some_types types) (row inner) h))
-type_complete sort fragments (by_limits word class bounds opener inner closer after role is is_round_bracket parts class_role text h) = λ rest k.
-    formed_reads limited_word word opener inner closer rest (limited_type word class bounds) role is is_round_bracket (ap (option_map (limited_of word)) (limits_complete class bounds inner after parts class_role text h))
+    formed_reads type_words.Union word opener inner closer rest (union_of word types) role is is_round_bracket (ap (λ (items : List Item). option_map (union_of word) (types_items items)) (items_row inner) ∙ ap (option_map (union_of word)) (type_complete (some_types types) (row inner) h))
+type_complete sort fragments (by_limits word class bounds opener inner closer after role is is_round_bracket parts class_role text h once) = λ rest k.
+    formed_reads type_words.Limited word opener inner closer rest (limited_type word class bounds) role is is_round_bracket (ap (option_map (limited_of word)) (limits_complete class bounds inner after parts class_role text h once))
 type_complete sort fragments (one_type type all h) = row_last is_comma_fragment type_items all type (no_commas_in all (type_quiet type all h)) (whole_type_reads type all (type_complete (a_type type) all h))
 type_complete sort fragments (more_types type others separator before after all parts is h k) =
     ap (λ (fs : Fragments). types_items (items_of fs)) parts
@@ -214,7 +222,7 @@ abbrev pub begins_colons : List Item → Bool
 begins_colons [] = false
 begins_colons (item ∷ rest) = is_colons item.fragment
 
-variable_named_reads : (role : Role) (token : Token) (rest : List Item) (front : VariableFront) → role ≡ named → variable_from token rest ≡ Some front → variable_named role token rest ≡ Some front
+variable_named_reads : (role : Role) (token : Token) (rest : List Item) (front : VariableFront) → role ≡ roles.Named → variable_from token rest ≡ Some front → variable_named role token rest ≡ Some front
 variable_named_reads role token rest front is e = rw is e
 
 untyped_reads : (token : Token) (rest : List Item) → begins_colons rest ≡ false → variable_from token rest ≡ Some (untyped_front token rest)
@@ -260,13 +268,13 @@ whole_variable_reads variable fragments h =
     ap (λ (items : List Item). option_and_then whole_variable (variable_front items)) (sym (append-nil (items_of fragments))) ∙ ap (option_and_then whole_variable) (variable_complete variable fragments h [] refl (λ e. refl))
 
 -- a variable is no part that begins with a mark
-pub named_unmarked : (text : List ℕ) (token : Token) (rest : List Item) → role_of token ≡ named → is_mark text token ≡ false
+pub named_unmarked : (text : List ℕ) (token : Token) (rest : List Item) → role_of token ≡ roles.Named → is_mark text token ≡ false
 named_unmarked text token rest is = go token.kind is
   where
-    go : (kind : TokenKind) → role_by kind token ≡ named → (is_mark_kind kind && is_same text token.text) ≡ false
-    go kinds.Mark e = absurd (mark_role_is (is_among (codes "#t" ∷ codes "#f" ∷ []) token.text) e)
+    go : (kind : TokenKind) → role_by kind token ≡ roles.Named → (is_mark_kind kind && is_spelled text token) ≡ false
+    go kinds.Mark e = absurd (mark_role_is (is_among (codes "#t" ∷ codes "#f" ∷ []) token) e)
       where
-        mark_role_is : (b : Bool) → cond b boolean other ≡ named → ⊥
+        mark_role_is : (b : Bool) → cond b roles.Boolean roles.Other ≡ roles.Named → ⊥
         mark_role_is true f = cc
         mark_role_is false f = cc
     go kind e = refl
@@ -278,10 +286,10 @@ variable_unmarked text variable fragments (typed token sign type after is sign_i
 mark_roles : (text : List ℕ) (token : Token) → is_mark text token ≡ true → (is_comma_fragment (one token) ≡ false) × (is_let (one token) ≡ false)
 mark_roles text token e = go token.kind e
   where
-    go : (kind : TokenKind) → (is_mark_kind kind && is_same text token.text) ≡ true → (is_comma (role_by kind token) ≡ false) × (is_let_role (role_by kind token) ≡ false)
-    go kinds.Mark f = both (is_among (codes "#t" ∷ codes "#f" ∷ []) token.text)
+    go : (kind : TokenKind) → (is_mark_kind kind && is_spelled text token) ≡ true → (is_comma (role_by kind token) ≡ false) × (is_let_role (role_by kind token) ≡ false)
+    go kinds.Mark f = both (is_among (codes "#t" ∷ codes "#f" ∷ []) token)
       where
-        both : (b : Bool) → (is_comma (cond b boolean other) ≡ false) × (is_let_role (cond b boolean other) ≡ false)
+        both : (b : Bool) → (is_comma (cond b roles.Boolean roles.Other) ≡ false) × (is_let_role (cond b roles.Boolean roles.Other) ≡ false)
         both true = (refl, refl)
         both false = (refl, refl)
     go kind f = absurd cc
@@ -289,10 +297,10 @@ mark_roles text token e = go token.kind e
 pub mark_closed : (text : List ℕ) (mark : Token) (rest : Fragments) → is_mark text mark ≡ true → Closed is_comma_fragment false rest → Closed is_comma_fragment false (one mark ∷ rest)
 mark_closed text mark rest is h = let (plainly, no_let) = mark_roles text mark is in (plainly, subst (λ (b : Bool). Closed is_comma_fragment b rest) (sym no_let) h)
 
-pub name_closed : (token : Token) → role_of token ≡ named → Closed is_comma_fragment false (one token ∷ [])
+pub name_closed : (token : Token) → role_of token ≡ roles.Named → Closed is_comma_fragment false (one token ∷ [])
 name_closed token is = (rw is refl, rw is refl)
 
-pub name_reads : (mark name : Token) → role_of name ≡ named → name_items (items_of (one mark ∷ one name ∷ [])) ≡ Some name
+pub name_reads : (mark name : Token) → role_of name ≡ roles.Named → name_items (items_of (one mark ∷ one name ∷ [])) ≡ Some name
 name_reads mark name is = rw is refl
 
 pub bind_complete : (variables : List VariableTree) (rest : Option Token) (fragments : Fragments) → Bind variables rest fragments → bind_items (items_of fragments) ≡ Some (record { parts = variables; last = rest })
@@ -305,7 +313,7 @@ bind_complete variables rest fragments (more_bound variable others last separato
     ∙ ending_more is_comma_fragment (marked (codes "#rest")) variable_items name_items before (one separator) after variable others last (no_commas_in before (variable_quiet variable before h)) (comma_separates separator is) (whole_variable_reads variable before h)
     (bind_complete others last after k)
 
-target_round : (bracket : Bracket) (inner : SeenFragments) (bound : Ending VariableTree Token) → bracket ≡ round → row inner ≢ [] → target_in bracket inner (Some bound) ≡ Some (several_of bound)
+target_round : (bracket : Bracket) (inner : SeenFragments) (bound : Ending VariableTree Token) → bracket ≡ brackets.Round → row inner ≢ [] → target_in bracket inner (Some bound) ≡ Some (several_of bound)
 target_round bracket no_fragment bound is some = absurd (some refl)
 target_round bracket (fragment_and first rest) bound is some = rw is refl
 

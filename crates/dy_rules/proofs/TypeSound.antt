@@ -5,25 +5,32 @@ use Rattle.dy_tree.specs.declared.token.Token.{Token}
 use Rattle.dy_tree.specs.declared.types.IntegerForm.{IntegerForm}
 use Rattle.dy_tree.specs.declared.types.LiteralForm.{LiteralForm}
 use Rattle.dy_tree.specs.Fragments.{SeenFragment, one, group, SeenFragments, no_fragment, fragment_and, row}
-use Rattle.dy_rules.specs.Roles.{Role, integer, named, colons, comma, minus, role_of, Bracket, round, sharp_round, bracket_of, is_same}
+use Rattle.dy_tree.specs.declared.roles.Role.{Role}
+use Rattle.dy_tree.specs.declared.roles.Role.TheVariants as roles
+use Rattle.dy_tree.specs.declared.brackets.Bracket.{Bracket}
+use Rattle.dy_tree.specs.declared.brackets.Bracket.TheVariants as brackets
+use Rattle.dy_tree.specs.declared.type_words.TypeWord.{TypeWord}
+use Rattle.dy_tree.specs.declared.type_words.TypeWord.TheVariants as type_words
+use Rattle.dy_tree.specs.Spelling.{is_spelled}
+use Rattle.dy_rules.specs.Roles.{role_of, bracket_of}
 use Rattle.dy_rules.specs.Constants.{token_literal, one_token, negative_integer}
 use Rattle.dy_rules.specs.Arguments.{is_comma, is_comma_fragment}
-use Rattle.dy_rules.specs.Types.{is_mark, Single, literal_single, IsSingle, of_literal, of_empty_list, of_name, Bound, is_bound, IsInteger, plain_number, negative_number, AreBounds, no_bound, bound_and, TypeTree, singleton_type, TypeWord, singleton_word, union_word, limited_word, no_type_word, type_word, a_type, some_types, IsType, by_name, by_singleton, by_union, by_limits, one_type, more_types, is_round, begins_round, is_type_word, takes_brackets, VariableTree, IsVariable, untyped, typed, Bind, last_bound, rest_bound, more_bound, TargetTree, one_target, IsTarget, by_variable, by_nothing, by_brackets, is_colons_role, variable_apart, begins_with}
+use Rattle.dy_rules.specs.Types.{is_mark, Single, literal_single, IsSingle, of_literal, of_empty_list, of_name, Bound, is_bound, IsInteger, plain_number, negative_number, each_once, AreBounds, no_bound, bound_and, TypeTree, singleton_type, type_word, a_type, some_types, IsType, by_name, by_singleton, by_union, by_limits, one_type, more_types, is_round, begins_round, is_type_word, takes_brackets, VariableTree, IsVariable, untyped, typed, Bind, last_bound, rest_bound, more_bound, TargetTree, one_target, IsTarget, by_variable, by_nothing, by_brackets, is_colons_role, variable_apart, begins_with}
 use Rattle.dy_rules.specs.Cutting.{Limits, Ending, Found, Item, Piece, Pieces, cut, each_other, fragments_in}
-use Rattle.dy_rules.specs.TypeReading.{single_token, negative_single, single_group, single_in, plain_integer, negative_integer_of, integer_in, bound_of, bound_if, bound_in, bound_items, is_integer_class, limits_of, limits_if, limits_in, limits_items, TypeFront, in_front, name_front, union_of, limited_of, form_type, word_front, group_front, front_behind, type_from, type_named, type_at, type_front, if_whole, whole_type, type_items, types_items, VariableFront, untyped_front, typed_front, is_colons, variable_if, variable_from, variable_named, variable_at, variable_front, whole_variable, variable_items, is_marked, marked, named_token, name_in, name_items, bind_items, several_of, target_in, target_group, target_one, target_if, target_items}
-use Rattle.dy_rules.proofs.Lists.{some_one, map_some, then_some}
+use Rattle.dy_rules.specs.TypeReading.{single_token, negative_single, single_group, single_in, plain_integer, negative_integer_of, integer_in, bound_of, bound_if, bound_in, bound_items, is_integer_class, limits_of, limits_if, limits_in, bounds_in, limits_items, TypeFront, in_front, name_front, union_of, limited_of, form_type, word_front, group_front, front_behind, type_from, type_named, type_at, type_front, if_whole, whole_type, type_items, types_items, VariableFront, untyped_front, typed_front, is_colons, variable_if, variable_from, variable_named, variable_at, variable_front, whole_variable, variable_items, is_marked, marked, named_token, name_in, name_items, bind_items, several_of, target_in, target_group, target_one, target_if, target_items}
+use Rattle.dy_rules.proofs.Lists.{some_one, map_some, then_some, passes_sound}
 use Rattle.dy_rules.proofs.Sound.{LimitsAre, InsideSound, ItemSound, ItemsSound, GroupSound}
 use Rattle.dy_rules.proofs.Cuts.{Row, row_sound, with_both, behind_in, Separates, cut_sound, EndRow, end_row_sound}
 
 abbrev Fragments : Type 0
 Fragments = List SeenFragment
 
-pub comma_is : (role : Role) → is_comma role ≡ true → role ≡ comma
-comma_is comma e = refl
+pub comma_is : (role : Role) → is_comma role ≡ true → role ≡ roles.Comma
+comma_is roles.Comma e = refl
 comma_is role e = absurd cc
 
 single_token_sound : (role : Role) (token : Token) (single : Single) → role_of token ≡ role → single_token role token ≡ Some single → IsSingle single (one token ∷ [])
-single_token_sound named token single is e = subst (λ (s : Single). IsSingle s (one token ∷ [])) (some_one _ _ e) (of_name token is)
+single_token_sound roles.Named token single is e = subst (λ (s : Single). IsSingle s (one token ∷ [])) (some_one _ _ e) (of_name token is)
 single_token_sound role token single is e = go (token_literal role token) refl e
   where
     go : (found : Option LiteralForm) → token_literal role token ≡ found → option_map literal_single found ≡ Some single → IsSingle single (one token ∷ [])
@@ -31,12 +38,12 @@ single_token_sound role token single is e = go (token_literal role token) refl e
     go (Some form) f g = subst (λ (s : Single). IsSingle s (one token ∷ [])) (some_one _ _ g) (of_literal form (one token ∷ []) (one_token token form (rw is f)))
 
 negative_single_sound : (first second : Role) (sign digits : Token) (single : Single) → role_of sign ≡ first → role_of digits ≡ second → negative_single first second sign digits ≡ Some single → IsSingle single (one sign ∷ one digits ∷ [])
-negative_single_sound minus integer sign digits single is also e = subst (λ (s : Single). IsSingle s (one sign ∷ one digits ∷ [])) (some_one _ _ e) (of_literal _ (one sign ∷ one digits ∷ []) (negative_integer sign digits is also))
+negative_single_sound roles.Minus roles.Integer sign digits single is also e = subst (λ (s : Single). IsSingle s (one sign ∷ one digits ∷ [])) (some_one _ _ e) (of_literal _ (one sign ∷ one digits ∷ []) (negative_integer sign digits is also))
 negative_single_sound first second sign digits single is also e = absurd cc
 
 single_group_sound : (bracket : Bracket) (opener : Token) (inner : SeenFragments) (closer : Token) (single : Single) → bracket_of opener closer ≡ bracket → single_group bracket inner opener ≡ Some single → IsSingle single (group opener inner closer ∷ [])
-single_group_sound sharp_round opener no_fragment closer single is e = subst (λ (s : Single). IsSingle s (group opener no_fragment closer ∷ [])) (some_one _ _ e) (of_empty_list opener closer is)
-single_group_sound sharp_round opener (fragment_and first rest) closer single is e = absurd cc
+single_group_sound brackets.SharpRound opener no_fragment closer single is e = subst (λ (s : Single). IsSingle s (group opener no_fragment closer ∷ [])) (some_one _ _ e) (of_empty_list opener closer is)
+single_group_sound brackets.SharpRound opener (fragment_and first rest) closer single is e = absurd cc
 single_group_sound bracket opener inner closer single is e = absurd cc
 
 pub single_sound : (fragments : Fragments) (single : Single) → single_in fragments ≡ Some single → IsSingle single fragments
@@ -50,11 +57,11 @@ single_sound (one first ∷ one second ∷ third ∷ rest) single e = absurd cc
 single_sound (one first ∷ group opener inner closer ∷ third ∷ rest) single e = absurd cc
 
 plain_sound : (role : Role) (digits : Token) (number : IntegerForm) → role_of digits ≡ role → plain_integer role digits ≡ Some number → IsInteger number (one digits ∷ [])
-plain_sound integer digits number is e = subst (λ (n : IntegerForm). IsInteger n (one digits ∷ [])) (some_one _ _ e) (plain_number digits is)
+plain_sound roles.Integer digits number is e = subst (λ (n : IntegerForm). IsInteger n (one digits ∷ [])) (some_one _ _ e) (plain_number digits is)
 plain_sound role digits number is e = absurd cc
 
 negative_sound : (first second : Role) (sign digits : Token) (number : IntegerForm) → role_of sign ≡ first → role_of digits ≡ second → negative_integer_of first second sign digits ≡ Some number → IsInteger number (one sign ∷ one digits ∷ [])
-negative_sound minus integer sign digits number is also e = subst (λ (n : IntegerForm). IsInteger n (one sign ∷ one digits ∷ [])) (some_one _ _ e) (negative_number sign digits is also)
+negative_sound roles.Minus roles.Integer sign digits number is also e = subst (λ (n : IntegerForm). IsInteger n (one sign ∷ one digits ∷ [])) (some_one _ _ e) (negative_number sign digits is also)
 negative_sound first second sign digits number is also e = absurd cc
 
 integer_sound : (fragments : Fragments) (number : IntegerForm) → integer_in fragments ≡ Some number → IsInteger number fragments
@@ -66,7 +73,7 @@ integer_sound (one first ∷ one second ∷ third ∷ rest) number e = absurd cc
 integer_sound (one first ∷ group opener inner closer ∷ third ∷ rest) number e = absurd cc
 integer_sound (group opener inner closer ∷ rest) number e = absurd cc
 
-pub comma_token : (fragment : SeenFragment) → is_comma_fragment fragment ≡ true → (token : Token) × (fragment ≡ one token) × (role_of token ≡ comma)
+pub comma_token : (fragment : SeenFragment) → is_comma_fragment fragment ≡ true → (token : Token) × (fragment ≡ one token) × (role_of token ≡ roles.Comma)
 comma_token (one token) e = (token, refl, comma_is (role_of token) e)
 comma_token (group opener inner closer) e = absurd cc
 
@@ -79,7 +86,7 @@ bound_sound [] bound e = absurd cc
 bound_sound (group opener inner closer ∷ rest) bound e = absurd cc
 bound_sound (one keyword ∷ digits) bound e = let (number, same, is, h) = bound_if_sound (is_bound keyword) keyword digits bound refl e in (keyword, digits, number, refl, same, is, h)
 
-one_more_bound : (token keyword : Token) (number : IntegerForm) (bound : Bound) (rest bounds : List Bound) (separator : SeenFragment) (within digits after : Fragments) → separator ≡ one token → role_of token ≡ comma → within ≡ one keyword ∷ digits → is_bound keyword ≡ true
+one_more_bound : (token keyword : Token) (number : IntegerForm) (bound : Bound) (rest bounds : List Bound) (separator : SeenFragment) (within digits after : Fragments) → separator ≡ one token → role_of token ≡ roles.Comma → within ≡ one keyword ∷ digits → is_bound keyword ≡ true
     → bound ≡ bound_of keyword number → bounds ≡ bound ∷ rest → IsInteger number digits → AreBounds rest after → AreBounds bounds (separator ∷ (within ++ after))
 one_more_bound token keyword number bound rest bounds separator within digits after is role parts key_is bound_is same n h =
     rw (same, bound_is, is, parts) (bound_and token keyword number rest digits after (one token ∷ one keyword ∷ (digits ++ after)) refl role key_is n h)
@@ -92,8 +99,8 @@ bounds_sound (piece ∷ others) bounds (separating, h, k) e =
     let (token, comma_one, role) = comma_token piece.separator separating in
     one_more_bound token keyword number bound rest bounds piece.separator (fragments_in piece.items) digits (behind_in others) comma_one role parts key_is bound_is same n (bounds_sound others rest k more)
 
-class_named : (role : Role) (class : Token) → is_integer_class role class ≡ true → (role ≡ named) × (is_same (codes "<integer>") class.text ≡ true)
-class_named named class e = (refl, e)
+class_named : (role : Role) (class : Token) → is_integer_class role class ≡ true → (role ≡ roles.Named) × (is_spelled (codes "<integer>") class ≡ true)
+class_named roles.Named class e = (refl, e)
 class_named role class e = absurd cc
 
 limits_if_sound : (is : Bool) (class : Token) (bounds : Option (List Bound)) (limits : Limits) → limits_if is class bounds ≡ Some limits → (is ≡ true) × (found : List Bound) × (bounds ≡ Some found) × (limits ≡ limits_of class found)
@@ -107,16 +114,17 @@ limits_in_sound (group opener inner closer ∷ rest) bounds limits e = absurd cc
 limits_in_sound (one class ∷ second ∷ rest) bounds limits e = absurd cc
 limits_in_sound (one class ∷ []) bounds limits e = let (is, found, some, same) = limits_if_sound (is_integer_class (role_of class) class) class bounds limits e in (class, refl, is, found, some, same)
 
-limits_are_of : (class : Token) (bounds : List Bound) (limits : Limits) (after all : Fragments) → limits ≡ limits_of class bounds → all ≡ one class ∷ after → role_of class ≡ named → is_same (codes "<integer>") class.text ≡ true → AreBounds bounds after → LimitsAre limits all
-limits_are_of class bounds limits after all same parts role text h = rw same (after, parts, role, text, h)
+limits_are_of : (class : Token) (bounds : List Bound) (limits : Limits) (after all : Fragments) → limits ≡ limits_of class bounds → all ≡ one class ∷ after → role_of class ≡ roles.Named → is_spelled (codes "<integer>") class ≡ true → AreBounds bounds after → each_once bounds ≡ true → LimitsAre limits all
+limits_are_of class bounds limits after all same parts role text h once = rw same (after, parts, role, text, h, once)
 
 pub limits_sound : (items : List Item) (limits : Limits) → ItemsSound items → limits_items items ≡ Some limits → LimitsAre limits (fragments_in items)
 limits_sound items limits h e =
     let pieces : Pieces = cut is_comma_fragment false items in
     let c = cut_sound is_comma_fragment false items h in
-    let (class, first_is, class_is, bounds, bounds_are, same) = limits_in_sound (fragments_in pieces.first) (each_other bound_items pieces.others) limits e in
+    let (class, first_is, class_is, bounds, bounds_are, same) = limits_in_sound (fragments_in pieces.first) (bounds_in pieces.others) limits e in
     let (role, text) = class_named (role_of class) class class_is in
-    limits_are_of class bounds limits (behind_in pieces.others) (fragments_in items) same (sym c.same ∙ ap (λ (fs : Fragments). fs ++ behind_in pieces.others) first_is) role text (bounds_sound pieces.others bounds c.others_sound bounds_are)
+    let (each, once) = passes_sound each_once (each_other bound_items pieces.others) bounds bounds_are in
+    limits_are_of class bounds limits (behind_in pieces.others) (fragments_in items) same (sym c.same ∙ ap (λ (fs : Fragments). fs ++ behind_in pieces.others) first_is) role text (bounds_sound pieces.others bounds c.others_sound each) once
 
 -- a type at the front of items
 pub record TypeIs (items : List Item) (front : TypeFront) : Type 0 where
@@ -126,35 +134,35 @@ pub record TypeIs (items : List Item) (front : TypeFront) : Type 0 where
   pub takes : takes_brackets front.type ≡ true → begins_round (fragments_in front.rest) ≡ false
   pub rest_sound : ItemsSound front.rest
 
-name_sound : (word : Token) (fragment : SeenFragment) (found : Found) (rest : List Item) (front : TypeFront) → fragment ≡ one word → role_of word ≡ named → (is_type_word (type_word word) ≡ true → begins_round (fragments_in rest) ≡ false) → ItemsSound rest
+name_sound : (word : Token) (fragment : SeenFragment) (found : Found) (rest : List Item) (front : TypeFront) → fragment ≡ one word → role_of word ≡ roles.Named → (is_type_word (type_word word) ≡ true → begins_round (fragments_in rest) ≡ false) → ItemsSound rest
     → name_front word rest ≡ Some front → TypeIs (record { fragment = fragment; found = found } ∷ rest) front
 name_sound word fragment found rest front same is takes h e =
     let f = some_one _ _ e in
     rw (← f) (record { before = one word ∷ []; parts = ap (λ (x : SeenFragment). x ∷ fragments_in rest) same; is = by_name word is; takes = takes; rest_sound = h })
 
-form_sound : (form : TypeWord) (word opener : Token) (inner : SeenFragments) (closer : Token) (found : Found) (type : TypeTree) → role_of word ≡ named → type_word word ≡ form → bracket_of opener closer ≡ round → InsideSound (row inner) found → form_type form word inner found ≡ Some type
+form_sound : (form : TypeWord) (word opener : Token) (inner : SeenFragments) (closer : Token) (found : Found) (type : TypeTree) → role_of word ≡ roles.Named → type_word word ≡ form → bracket_of opener closer ≡ brackets.Round → InsideSound (row inner) found → form_type form word inner found ≡ Some type
     → IsType (a_type type) (one word ∷ group opener inner closer ∷ [])
-form_sound singleton_word word opener inner closer found type role is is_round_bracket h e =
+form_sound type_words.Singleton word opener inner closer found type role is is_round_bracket h e =
     let (single, read, same) = map_some (singleton_type word) (single_in (row inner)) type e in
     rw same (by_singleton word single opener inner closer role is is_round_bracket (single_sound (row inner) single read))
-form_sound union_word word opener inner closer found type role is is_round_bracket h e =
+form_sound type_words.Union word opener inner closer found type role is is_round_bracket h e =
     let (types, read, same) = map_some (union_of word) found.types type e in
     rw same (by_union word types opener inner closer role is is_round_bracket (h.types_are types read))
-form_sound limited_word word opener inner closer found type role is is_round_bracket h e =
+form_sound type_words.Limited word opener inner closer found type role is is_round_bracket h e =
     let (limits, read, same) = map_some (limited_of word) found.limits type e in
-    let (after, parts, class_role, text, bounds) = h.limits_are limits read in
-    rw same (by_limits word limits.class limits.bounds opener inner closer after role is is_round_bracket parts class_role text bounds)
-form_sound no_type_word word opener inner closer found type role is is_round_bracket h e = absurd cc
+    let (after, parts, class_role, text, bounds, once) = h.limits_are limits read in
+    rw same (by_limits word limits.class limits.bounds opener inner closer after role is is_round_bracket parts class_role text bounds once)
+form_sound type_words.Absent word opener inner closer found type role is is_round_bracket h e = absurd cc
 
 form_takes : (form : TypeWord) (word : Token) (inner : SeenFragments) (found : Found) (type : TypeTree) → form_type form word inner found ≡ Some type → takes_brackets type ≡ false
-form_takes singleton_word word inner found type e = let (single, read, same) = map_some (singleton_type word) (single_in (row inner)) type e in rw same refl
-form_takes union_word word inner found type e = let (types, read, same) = map_some (union_of word) found.types type e in rw same refl
-form_takes limited_word word inner found type e = let (limits, read, same) = map_some (limited_of word) found.limits type e in rw same refl
-form_takes no_type_word word inner found type e = absurd cc
+form_takes type_words.Singleton word inner found type e = let (single, read, same) = map_some (singleton_type word) (single_in (row inner)) type e in rw same refl
+form_takes type_words.Union word inner found type e = let (types, read, same) = map_some (union_of word) found.types type e in rw same refl
+form_takes type_words.Limited word inner found type e = let (limits, read, same) = map_some (limited_of word) found.limits type e in rw same refl
+form_takes type_words.Absent word inner found type e = absurd cc
 
 -- one of the three forms at the front of items
-formed : (form : TypeWord) (word opener : Token) (inner : SeenFragments) (closer : Token) (fragment : SeenFragment) (found : Found) (item : Item) (rest : List Item) (front : TypeFront) → fragment ≡ one word → role_of word ≡ named → item.fragment ≡ group opener inner closer
-    → type_word word ≡ form → bracket_of opener closer ≡ round → InsideSound (row inner) item.found → ItemsSound rest → option_map (in_front rest) (form_type form word inner item.found) ≡ Some front
+formed : (form : TypeWord) (word opener : Token) (inner : SeenFragments) (closer : Token) (fragment : SeenFragment) (found : Found) (item : Item) (rest : List Item) (front : TypeFront) → fragment ≡ one word → role_of word ≡ roles.Named → item.fragment ≡ group opener inner closer
+    → type_word word ≡ form → bracket_of opener closer ≡ brackets.Round → InsideSound (row inner) item.found → ItemsSound rest → option_map (in_front rest) (form_type form word inner item.found) ≡ Some front
     → TypeIs (record { fragment = fragment; found = found } ∷ item ∷ rest) front
 formed form word opener inner closer fragment found item rest front same role second is is_round_bracket h k e =
     let (type, read, front_is) = map_some (in_front rest) (form_type form word inner item.found) front e in
@@ -167,37 +175,37 @@ formed form word opener inner closer fragment found item rest front same role se
       rest_sound = k;
     })
 
-type_word_sound : (form : TypeWord) (word opener : Token) (inner : SeenFragments) (closer : Token) (fragment : SeenFragment) (found : Found) (item : Item) (rest : List Item) (front : TypeFront) → fragment ≡ one word → role_of word ≡ named → item.fragment ≡ group opener inner closer
-    → type_word word ≡ form → bracket_of opener closer ≡ round → ItemSound item → InsideSound (row inner) item.found → ItemsSound rest → word_front form word inner item rest ≡ Some front
+type_word_sound : (form : TypeWord) (word opener : Token) (inner : SeenFragments) (closer : Token) (fragment : SeenFragment) (found : Found) (item : Item) (rest : List Item) (front : TypeFront) → fragment ≡ one word → role_of word ≡ roles.Named → item.fragment ≡ group opener inner closer
+    → type_word word ≡ form → bracket_of opener closer ≡ brackets.Round → ItemSound item → InsideSound (row inner) item.found → ItemsSound rest → word_front form word inner item rest ≡ Some front
     → TypeIs (record { fragment = fragment; found = found } ∷ item ∷ rest) front
-type_word_sound no_type_word word opener inner closer fragment found item rest front same role second is is_round_bracket hi h k e =
+type_word_sound type_words.Absent word opener inner closer fragment found item rest front same role second is is_round_bracket hi h k e =
     name_sound word fragment found (item ∷ rest) front same role (λ f. let g = sym (ap is_type_word is) ∙ f in absurd cc) (hi, k) e
-type_word_sound singleton_word word opener inner closer fragment found item rest front same role second is is_round_bracket hi h k e = formed singleton_word word opener inner closer fragment found item rest front same role second is is_round_bracket h k e
-type_word_sound union_word word opener inner closer fragment found item rest front same role second is is_round_bracket hi h k e = formed union_word word opener inner closer fragment found item rest front same role second is is_round_bracket h k e
-type_word_sound limited_word word opener inner closer fragment found item rest front same role second is is_round_bracket hi h k e = formed limited_word word opener inner closer fragment found item rest front same role second is is_round_bracket h k e
+type_word_sound type_words.Singleton word opener inner closer fragment found item rest front same role second is is_round_bracket hi h k e = formed type_words.Singleton word opener inner closer fragment found item rest front same role second is is_round_bracket h k e
+type_word_sound type_words.Union word opener inner closer fragment found item rest front same role second is is_round_bracket hi h k e = formed type_words.Union word opener inner closer fragment found item rest front same role second is is_round_bracket h k e
+type_word_sound type_words.Limited word opener inner closer fragment found item rest front same role second is is_round_bracket hi h k e = formed type_words.Limited word opener inner closer fragment found item rest front same role second is is_round_bracket h k e
 
 no_round : (bracket : Bracket) (opener : Token) (inner : SeenFragments) (closer : Token) (item : Item) (rest : List Item) → item.fragment ≡ group opener inner closer → bracket_of opener closer ≡ bracket → is_round bracket ≡ false → begins_round (fragments_in (item ∷ rest)) ≡ false
 no_round bracket opener inner closer item rest second is other = ap (λ (f : SeenFragment). begins_round (f ∷ fragments_in rest)) second ∙ ap is_round is ∙ other
 
-group_front_sound : (bracket : Bracket) (word opener : Token) (inner : SeenFragments) (closer : Token) (fragment : SeenFragment) (found : Found) (item : Item) (rest : List Item) (front : TypeFront) → fragment ≡ one word → role_of word ≡ named → item.fragment ≡ group opener inner closer
+group_front_sound : (bracket : Bracket) (word opener : Token) (inner : SeenFragments) (closer : Token) (fragment : SeenFragment) (found : Found) (item : Item) (rest : List Item) (front : TypeFront) → fragment ≡ one word → role_of word ≡ roles.Named → item.fragment ≡ group opener inner closer
     → bracket_of opener closer ≡ bracket → ItemSound item → InsideSound (row inner) item.found → ItemsSound rest → group_front bracket word inner item rest ≡ Some front
     → TypeIs (record { fragment = fragment; found = found } ∷ item ∷ rest) front
-group_front_sound round word opener inner closer fragment found item rest front same role second is hi h k e = type_word_sound (type_word word) word opener inner closer fragment found item rest front same role second refl is hi h k e
+group_front_sound brackets.Round word opener inner closer fragment found item rest front same role second is hi h k e = type_word_sound (type_word word) word opener inner closer fragment found item rest front same role second refl is hi h k e
 group_front_sound bracket word opener inner closer fragment found item rest front same role second is hi h k e =
     name_sound word fragment found (item ∷ rest) front same role (λ f. no_round bracket opener inner closer item rest second is refl) (hi, k) e
 
-front_behind_sound : (word : Token) (fragment : SeenFragment) (found : Found) (second : SeenFragment) (item : Item) (rest : List Item) (front : TypeFront) → fragment ≡ one word → role_of word ≡ named → item.fragment ≡ second → ItemSound item → GroupSound second item.found → ItemsSound rest
+front_behind_sound : (word : Token) (fragment : SeenFragment) (found : Found) (second : SeenFragment) (item : Item) (rest : List Item) (front : TypeFront) → fragment ≡ one word → role_of word ≡ roles.Named → item.fragment ≡ second → ItemSound item → GroupSound second item.found → ItemsSound rest
     → front_behind word second item rest ≡ Some front → TypeIs (record { fragment = fragment; found = found } ∷ item ∷ rest) front
 front_behind_sound word fragment found (one token) item rest front same role second hi g k e =
     name_sound word fragment found (item ∷ rest) front same role (λ f. ap (λ (x : SeenFragment). begins_round (x ∷ fragments_in rest)) second) (hi, k) e
 front_behind_sound word fragment found (group opener inner closer) item rest front same role second hi g k e = group_front_sound (bracket_of opener closer) word opener inner closer fragment found item rest front same role second refl hi g.1 k e
 
-type_from_sound : (word : Token) (fragment : SeenFragment) (found : Found) (rest : List Item) (front : TypeFront) → fragment ≡ one word → role_of word ≡ named → ItemsSound rest → type_from word rest ≡ Some front → TypeIs (record { fragment = fragment; found = found } ∷ rest) front
+type_from_sound : (word : Token) (fragment : SeenFragment) (found : Found) (rest : List Item) (front : TypeFront) → fragment ≡ one word → role_of word ≡ roles.Named → ItemsSound rest → type_from word rest ≡ Some front → TypeIs (record { fragment = fragment; found = found } ∷ rest) front
 type_from_sound word fragment found [] front same role h e = name_sound word fragment found [] front same role (λ f. refl) tt e
 type_from_sound word fragment found (item ∷ rest) front same role (h, k) e = front_behind_sound word fragment found item.fragment item rest front same role refl h h.group_is k e
 
 type_named_sound : (role : Role) (word : Token) (fragment : SeenFragment) (found : Found) (rest : List Item) (front : TypeFront) → fragment ≡ one word → role_of word ≡ role → ItemsSound rest → type_named role word rest ≡ Some front → TypeIs (record { fragment = fragment; found = found } ∷ rest) front
-type_named_sound named word fragment found rest front same is h e = type_from_sound word fragment found rest front same is h e
+type_named_sound roles.Named word fragment found rest front same is h e = type_from_sound word fragment found rest front same is h e
 type_named_sound role word fragment found rest front same is h e = absurd cc
 
 type_at_sound : (fragment same : SeenFragment) (found : Found) (rest : List Item) (front : TypeFront) → fragment ≡ same → ItemsSound rest → type_at same rest ≡ Some front → TypeIs (record { fragment = fragment; found = found } ∷ rest) front
@@ -240,14 +248,14 @@ pub record VariableIs (items : List Item) (front : VariableFront) : Type 0 where
   pub apart_is : variable_apart front.variable.declared (fragments_in front.rest) ≡ true
   pub rest_sound : ItemsSound front.rest
 
-untyped_is : (token : Token) (fragment : SeenFragment) (found : Found) (rest : List Item) → fragment ≡ one token → role_of token ≡ named → begins_with is_colons_role (fragments_in rest) ≡ false → ItemsSound rest → VariableIs (record { fragment = fragment; found = found } ∷ rest) (untyped_front token rest)
+untyped_is : (token : Token) (fragment : SeenFragment) (found : Found) (rest : List Item) → fragment ≡ one token → role_of token ≡ roles.Named → begins_with is_colons_role (fragments_in rest) ≡ false → ItemsSound rest → VariableIs (record { fragment = fragment; found = found } ∷ rest) (untyped_front token rest)
 untyped_is token fragment found rest same is plainly h = record { before = one token ∷ []; parts = ap (λ (x : SeenFragment). x ∷ fragments_in rest) same; is = untyped token is; apart_is = ap not plainly; rest_sound = h }
 
-colons_is : (role : Role) → is_colons_role role ≡ true → role ≡ colons
-colons_is colons e = refl
+colons_is : (role : Role) → is_colons_role role ≡ true → role ≡ roles.Colons
+colons_is roles.Colons e = refl
 colons_is role e = absurd cc
 
-pub colons_token : (fragment : SeenFragment) → is_colons fragment ≡ true → (token : Token) × (fragment ≡ one token) × (role_of token ≡ colons)
+pub colons_token : (fragment : SeenFragment) → is_colons fragment ≡ true → (token : Token) × (fragment ≡ one token) × (role_of token ≡ roles.Colons)
 colons_token (one token) e = (token, refl, colons_is (role_of token) e)
 colons_token (group opener inner closer) e = absurd cc
 
@@ -262,7 +270,7 @@ type_apart type rest false e h = rw e refl
 two_and : (first second : SeenFragment) (token sign : Token) (rest others : Fragments) → first ≡ one token → second ≡ one sign → rest ≡ others → first ∷ second ∷ rest ≡ one token ∷ one sign ∷ others
 two_and first second token sign rest others e f g = rw (e, f, g) refl
 
-variable_if_sound : (is : Bool) (token : Token) (fragment : SeenFragment) (found : Found) (item : Item) (rest : List Item) (front : VariableFront) → is_colons item.fragment ≡ is → fragment ≡ one token → role_of token ≡ named → ItemSound item → ItemsSound rest
+variable_if_sound : (is : Bool) (token : Token) (fragment : SeenFragment) (found : Found) (item : Item) (rest : List Item) (front : VariableFront) → is_colons item.fragment ≡ is → fragment ≡ one token → role_of token ≡ roles.Named → ItemSound item → ItemsSound rest
     → variable_if is token item rest ≡ Some front → VariableIs (record { fragment = fragment; found = found } ∷ item ∷ rest) front
 variable_if_sound true token fragment found item rest front has_colons same is h k e =
     let (type, read, front_is) = map_some (typed_front token) (type_front rest) front e in
@@ -278,13 +286,13 @@ variable_if_sound true token fragment found item rest front has_colons same is h
     })
 variable_if_sound false token fragment found item rest front has_colons same is h k e = rw (← some_one _ _ e) (untyped_is token fragment found (item ∷ rest) same is (no_colons_first item.fragment (fragments_in rest) has_colons) (h, k))
 
-variable_from_sound : (token : Token) (fragment : SeenFragment) (found : Found) (rest : List Item) (front : VariableFront) → fragment ≡ one token → role_of token ≡ named → ItemsSound rest → variable_from token rest ≡ Some front → VariableIs (record { fragment = fragment; found = found } ∷ rest) front
+variable_from_sound : (token : Token) (fragment : SeenFragment) (found : Found) (rest : List Item) (front : VariableFront) → fragment ≡ one token → role_of token ≡ roles.Named → ItemsSound rest → variable_from token rest ≡ Some front → VariableIs (record { fragment = fragment; found = found } ∷ rest) front
 variable_from_sound token fragment found [] front same is h e = rw (← some_one _ _ e) (untyped_is token fragment found [] same is refl tt)
 variable_from_sound token fragment found (item ∷ rest) front same is (h, k) e = variable_if_sound (is_colons item.fragment) token fragment found item rest front refl same is h k e
 
 variable_named_sound : (role : Role) (token : Token) (fragment : SeenFragment) (found : Found) (rest : List Item) (front : VariableFront) → fragment ≡ one token → role_of token ≡ role → ItemsSound rest → variable_named role token rest ≡ Some front
     → VariableIs (record { fragment = fragment; found = found } ∷ rest) front
-variable_named_sound named token fragment found rest front same is h e = variable_from_sound token fragment found rest front same is h e
+variable_named_sound roles.Named token fragment found rest front same is h e = variable_from_sound token fragment found rest front same is h e
 variable_named_sound role token fragment found rest front same is h e = absurd cc
 
 variable_at_sound : (fragment same : SeenFragment) (found : Found) (rest : List Item) (front : VariableFront) → fragment ≡ same → ItemsSound rest → variable_at same rest ≡ Some front → VariableIs (record { fragment = fragment; found = found } ∷ rest) front
@@ -301,12 +309,12 @@ variable_sound items variable h e =
     let t = variable_front_sound items front h read in
     whole_front IsVariable front.variable variable t.before (fragments_in items) front.rest t.parts (whole_is front.variable variable front.rest whole) t.is
 
-named_is : (role : Role) (token name : Token) → named_token role token ≡ Some name → (role ≡ named) × (token ≡ name)
-named_is named token name e = (refl, some_one token name e)
+named_is : (role : Role) (token name : Token) → named_token role token ≡ Some name → (role ≡ roles.Named) × (token ≡ name)
+named_is roles.Named token name e = (refl, some_one token name e)
 named_is role token name e = absurd cc
 
 -- a mark and a name
-pub marked_name : (text : List ℕ) (fragments : Fragments) (name : Token) → name_in fragments ≡ Some name → (mark : Token) × (fragments ≡ one mark ∷ one name ∷ []) × (role_of name ≡ named)
+pub marked_name : (text : List ℕ) (fragments : Fragments) (name : Token) → name_in fragments ≡ Some name → (mark : Token) × (fragments ≡ one mark ∷ one name ∷ []) × (role_of name ≡ roles.Named)
 marked_name text [] name e = absurd cc
 marked_name text (one mark ∷ []) name e = absurd cc
 marked_name text (group opener inner closer ∷ rest) name e = absurd cc
@@ -329,7 +337,7 @@ more_bound_of variable others rest (group opener inner closer) before after e h 
 
 -- `#rest` and its name
 abbrev RestIs : Token → Fragments → Type 0
-RestIs rest fragments = (mark : Token) × (fragments ≡ one mark ∷ one rest ∷ []) × (is_mark (codes "#rest") mark ≡ true) × (role_of rest ≡ named)
+RestIs rest fragments = (mark : Token) × (fragments ≡ one mark ∷ one rest ∷ []) × (is_mark (codes "#rest") mark ≡ true) × (role_of rest ≡ roles.Named)
 
 bind_row : EndRow is_comma_fragment (marked (codes "#rest")) variable_items name_items (λ variable fragments. IsVariable variable fragments) RestIs Bind
 bind_row =
@@ -346,8 +354,8 @@ bind_sound items bound h e = end_row_sound is_comma_fragment (marked (codes "#re
 
 target_in_sound : (bracket : Bracket) (opener : Token) (inner : SeenFragments) (closer : Token) (found : Found) (target : TargetTree) → bracket_of opener closer ≡ bracket → InsideSound (row inner) found → target_in bracket inner found.bound ≡ Some target
     → IsTarget target (group opener inner closer ∷ [])
-target_in_sound round opener no_fragment closer found target is h e = subst (λ (t : TargetTree). IsTarget t (group opener no_fragment closer ∷ [])) (some_one _ _ e) (by_nothing opener closer is)
-target_in_sound round opener (fragment_and first rest) closer found target is h e =
+target_in_sound brackets.Round opener no_fragment closer found target is h e = subst (λ (t : TargetTree). IsTarget t (group opener no_fragment closer ∷ [])) (some_one _ _ e) (by_nothing opener closer is)
+target_in_sound brackets.Round opener (fragment_and first rest) closer found target is h e =
     let (bound, read, same) = map_some several_of found.bound target e in
     rw same (by_brackets bound.parts bound.last opener (fragment_and first rest) closer is (h.bound_are bound read))
 target_in_sound bracket opener inner closer found target is h e = absurd cc

@@ -6,7 +6,8 @@ use Rattle.dy_tree.specs.declared.token.TokenKind.TheVariants as kinds
 use Rattle.dy_tree.specs.declared.token.Token.{Token}
 use Rattle.dy_tree.specs.declared.types.IntegerForm.{IntegerForm}
 use Rattle.dy_tree.specs.Fragments.{SeenFragment, one, row, pack}
-use Rattle.dy_rules.specs.Roles.{begun_by, Splitting, splits}
+use Rattle.dy_tree.specs.declared.splitters.Splitting.{Splitting}
+use Rattle.dy_rules.specs.Roles.{begun_by, splits}
 use Rattle.dy_rules.specs.Types.{Single, IsSingle, of_literal, of_empty_list, of_name, Bound, IsInteger, plain_number, negative_number, AreBounds, no_bound, bound_and, TypeTree, types_of, TypeSort, a_type, some_types, IsType, by_name, by_singleton, by_union, by_limits, one_type, more_types, VariableTree, IsVariable, untyped, typed, is_splitting, binds_plainly, Bind, last_bound, rest_bound, more_bound, TargetTree, IsTarget, by_variable, by_nothing, by_brackets, Give, last_given, rest_given, more_given, ResultTree, several_results, one_result, by_result, by_no_results, by_results, ResultsPart, no_results, some_results, apart, variable_apart, takes_brackets, RequiredTree, IsRequired, any_value, one_value}
 use Rattle.dy_rules.specs.Marks.{made, mark, in_round, written_integer, written_literal, comma_mark, semicolon_mark}
 use Rattle.dy_rules.specs.TypeWriting.{written_single, written_bounds, written_type, written_types, types_behind, written_variable, written_bound, written_target, written_given, written_results, written_required}
@@ -46,8 +47,8 @@ type_writes_sort sort fragments (by_singleton word single opener inner closer ro
     by_singleton word single (mark (codes "(")) (pack (written_single single)) (mark (codes ")")) role is refl (subst (IsSingle single) (sym (row_pack (written_single single))) (single_writes single (row inner) h))
 type_writes_sort sort fragments (by_union word types opener inner closer role is is_round_bracket h) =
     by_union word types (mark (codes "(")) (pack (written_types (types_of types))) (mark (codes ")")) role is refl (subst (IsType (some_types types)) (sym (row_pack (written_types (types_of types)))) (type_writes_sort (some_types types) (row inner) h).1)
-type_writes_sort sort fragments (by_limits word class bounds opener inner closer after role is is_round_bracket parts class_role text h) =
-    by_limits word class bounds (mark (codes "(")) (pack (one class ∷ written_bounds bounds)) (mark (codes ")")) (written_bounds bounds) role is refl (row_pack (one class ∷ written_bounds bounds)) class_role text (bounds_write bounds after h)
+type_writes_sort sort fragments (by_limits word class bounds opener inner closer after role is is_round_bracket parts class_role text h once) =
+    by_limits word class bounds (mark (codes "(")) (pack (one class ∷ written_bounds bounds)) (mark (codes ")")) (written_bounds bounds) role is refl (row_pack (one class ∷ written_bounds bounds)) class_role text (bounds_write bounds after h) once
 type_writes_sort sort fragments (one_type type all h) = ((type, [], refl), one_type type (written_type type ++ []) (subst (IsType (a_type type)) (sym (append-nil (written_type type))) (type_writes_sort (a_type type) all h)))
 type_writes_sort sort fragments (more_types type others separator before after all parts is h k) =
     ((type, others, refl), types_written_more type others (type_writes_sort (some_types others) after k) (type_writes_sort (a_type type) before h))
@@ -86,7 +87,7 @@ pub type_splits : (words : Splitting) (type : TypeTree) (fragments : Fragments) 
 type_splits words type fragments (by_name token is) = refl
 type_splits words type fragments (by_singleton word single opener inner closer role is is_round_bracket h) = refl
 type_splits words type fragments (by_union word types opener inner closer role is is_round_bracket h) = refl
-type_splits words type fragments (by_limits word class bounds opener inner closer after role is is_round_bracket parts class_role text h) = refl
+type_splits words type fragments (by_limits word class bounds opener inner closer after role is is_round_bracket parts class_role text h once) = refl
 
 not_or : (a b : Bool) → not (a || b) ≡ true → b ≡ false
 not_or true b e = absurd cc

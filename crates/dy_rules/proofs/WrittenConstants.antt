@@ -5,8 +5,14 @@ use Rattle.dy_tree.specs.declared.token.TokenKind.TheVariants as kinds
 use Rattle.dy_tree.specs.declared.token.Token.{Token}
 use Rattle.dy_tree.specs.declared.types.LiteralForm.{LiteralForm}
 use Rattle.dy_tree.specs.Fragments.{SeenFragment, one, row, pack}
+use Rattle.dy_tree.specs.declared.roles.Role.{Role}
+use Rattle.dy_tree.specs.declared.roles.Role.TheVariants as roles
+use Rattle.dy_tree.specs.declared.brackets.Keyword.{Keyword}
+use Rattle.dy_tree.specs.declared.brackets.Bracket.{Bracket}
+use Rattle.dy_tree.specs.declared.brackets.Bracket.TheVariants as brackets
+use Rattle.dy_tree.specs.Spelling.{is_sign, is_word}
 use Rattle.dy_rules.specs.ConstantTrees.{Constant, constants_of, tail_of}
-use Rattle.dy_rules.specs.Roles.{Role, integer, character, string, boolean, symbol, role_of, Keyword, statement, is_word, Bracket, round, square, hidden, sharp_round, sharp_square, special, begun_by, closed_by, is_sign}
+use Rattle.dy_rules.specs.Roles.{role_of, begun_by, closed_by}
 use Rattle.dy_rules.specs.Marks.{made, mark, comma_mark, dot_mark, written_literal}
 use Rattle.dy_rules.specs.Writing.{written_constant, written_items, rest_of_items, written_tail}
 use Rattle.dy_rules.specs.Constants.{token_literal, IsLiteral, one_token, negative_integer, ConstantSort, constant, some_constants, in_list, in_vector, IsConstant, literal_constant, list_constant, vector_constant, one_constant, more_constants, empty_list, proper_list, improper_list, empty_vector, full_vector}
@@ -15,132 +21,132 @@ use Rattle.dy_rules.proofs.Lists.{row_pack, some_one}
 abbrev Fragments : Type 0
 Fragments = List SeenFragment
 
-pub list_closed : (kind : Bracket) (closer : Token) → closed_by kind closer ≡ sharp_round → closed_by kind (mark (codes ")")) ≡ sharp_round
-list_closed round closer e = absurd (other_end (is_sign (codes ")") closer) e)
+pub list_closed : (kind : Bracket) (closer : Token) → closed_by kind closer ≡ brackets.SharpRound → closed_by kind (mark (codes ")")) ≡ brackets.SharpRound
+list_closed brackets.Round closer e = absurd (other_end (is_sign (codes ")") closer) e)
   where
-    other_end : (b : Bool) → cond b round special ≡ sharp_round → ⊥
+    other_end : (b : Bool) → cond b brackets.Round brackets.Special ≡ brackets.SharpRound → ⊥
     other_end true f = cc
     other_end false f = cc
-list_closed square closer e = absurd (other_end (is_sign (codes "]") closer) e)
+list_closed brackets.Square closer e = absurd (other_end (is_sign (codes "]") closer) e)
   where
-    other_end : (b : Bool) → cond b square special ≡ sharp_round → ⊥
+    other_end : (b : Bool) → cond b brackets.Square brackets.Special ≡ brackets.SharpRound → ⊥
     other_end true f = cc
     other_end false f = cc
-list_closed hidden closer e = absurd (other_end (is_sign [] closer) e)
+list_closed brackets.Hidden closer e = absurd (other_end (is_sign [] closer) e)
   where
-    other_end : (b : Bool) → cond b hidden special ≡ sharp_round → ⊥
+    other_end : (b : Bool) → cond b brackets.Hidden brackets.Special ≡ brackets.SharpRound → ⊥
     other_end true f = cc
     other_end false f = cc
-list_closed sharp_square closer e = absurd (other_end (is_sign (codes "]") closer) e)
+list_closed brackets.SharpSquare closer e = absurd (other_end (is_sign (codes "]") closer) e)
   where
-    other_end : (b : Bool) → cond b sharp_square special ≡ sharp_round → ⊥
+    other_end : (b : Bool) → cond b brackets.SharpSquare brackets.Special ≡ brackets.SharpRound → ⊥
     other_end true f = cc
     other_end false f = cc
-list_closed (statement kind) closer e = absurd (other_end (is_word (codes "end") closer) e)
+list_closed (brackets.Statement kind) closer e = absurd (other_end (is_word (codes "end") closer) e)
   where
-    other_end : (b : Bool) → cond b (statement kind) special ≡ sharp_round → ⊥
+    other_end : (b : Bool) → cond b (brackets.Statement kind) brackets.Special ≡ brackets.SharpRound → ⊥
     other_end true f = cc
     other_end false f = cc
-list_closed sharp_round closer e = refl
-list_closed special closer e = absurd cc
+list_closed brackets.SharpRound closer e = refl
+list_closed brackets.Special closer e = absurd cc
 
-pub vector_closed : (kind : Bracket) (closer : Token) → closed_by kind closer ≡ sharp_square → closed_by kind (mark (codes "]")) ≡ sharp_square
-vector_closed round closer e = absurd (other_end (is_sign (codes ")") closer) e)
+pub vector_closed : (kind : Bracket) (closer : Token) → closed_by kind closer ≡ brackets.SharpSquare → closed_by kind (mark (codes "]")) ≡ brackets.SharpSquare
+vector_closed brackets.Round closer e = absurd (other_end (is_sign (codes ")") closer) e)
   where
-    other_end : (b : Bool) → cond b round special ≡ sharp_square → ⊥
+    other_end : (b : Bool) → cond b brackets.Round brackets.Special ≡ brackets.SharpSquare → ⊥
     other_end true f = cc
     other_end false f = cc
-vector_closed square closer e = absurd (other_end (is_sign (codes "]") closer) e)
+vector_closed brackets.Square closer e = absurd (other_end (is_sign (codes "]") closer) e)
   where
-    other_end : (b : Bool) → cond b square special ≡ sharp_square → ⊥
+    other_end : (b : Bool) → cond b brackets.Square brackets.Special ≡ brackets.SharpSquare → ⊥
     other_end true f = cc
     other_end false f = cc
-vector_closed hidden closer e = absurd (other_end (is_sign [] closer) e)
+vector_closed brackets.Hidden closer e = absurd (other_end (is_sign [] closer) e)
   where
-    other_end : (b : Bool) → cond b hidden special ≡ sharp_square → ⊥
+    other_end : (b : Bool) → cond b brackets.Hidden brackets.Special ≡ brackets.SharpSquare → ⊥
     other_end true f = cc
     other_end false f = cc
-vector_closed sharp_round closer e = absurd (other_end (is_sign (codes ")") closer) e)
+vector_closed brackets.SharpRound closer e = absurd (other_end (is_sign (codes ")") closer) e)
   where
-    other_end : (b : Bool) → cond b sharp_round special ≡ sharp_square → ⊥
+    other_end : (b : Bool) → cond b brackets.SharpRound brackets.Special ≡ brackets.SharpSquare → ⊥
     other_end true f = cc
     other_end false f = cc
-vector_closed (statement kind) closer e = absurd (other_end (is_word (codes "end") closer) e)
+vector_closed (brackets.Statement kind) closer e = absurd (other_end (is_word (codes "end") closer) e)
   where
-    other_end : (b : Bool) → cond b (statement kind) special ≡ sharp_square → ⊥
+    other_end : (b : Bool) → cond b (brackets.Statement kind) brackets.Special ≡ brackets.SharpSquare → ⊥
     other_end true f = cc
     other_end false f = cc
-vector_closed sharp_square closer e = refl
-vector_closed special closer e = absurd cc
+vector_closed brackets.SharpSquare closer e = refl
+vector_closed brackets.Special closer e = absurd cc
 
-pub square_closed : (kind : Bracket) (closer : Token) → closed_by kind closer ≡ square → closed_by kind (mark (codes "]")) ≡ square
-square_closed round closer e = absurd (other_end (is_sign (codes ")") closer) e)
+pub square_closed : (kind : Bracket) (closer : Token) → closed_by kind closer ≡ brackets.Square → closed_by kind (mark (codes "]")) ≡ brackets.Square
+square_closed brackets.Round closer e = absurd (other_end (is_sign (codes ")") closer) e)
   where
-    other_end : (b : Bool) → cond b round special ≡ square → ⊥
+    other_end : (b : Bool) → cond b brackets.Round brackets.Special ≡ brackets.Square → ⊥
     other_end true f = cc
     other_end false f = cc
-square_closed square closer e = refl
-square_closed hidden closer e = absurd (other_end (is_sign [] closer) e)
+square_closed brackets.Square closer e = refl
+square_closed brackets.Hidden closer e = absurd (other_end (is_sign [] closer) e)
   where
-    other_end : (b : Bool) → cond b hidden special ≡ square → ⊥
+    other_end : (b : Bool) → cond b brackets.Hidden brackets.Special ≡ brackets.Square → ⊥
     other_end true f = cc
     other_end false f = cc
-square_closed sharp_round closer e = absurd (other_end (is_sign (codes ")") closer) e)
+square_closed brackets.SharpRound closer e = absurd (other_end (is_sign (codes ")") closer) e)
   where
-    other_end : (b : Bool) → cond b sharp_round special ≡ square → ⊥
+    other_end : (b : Bool) → cond b brackets.SharpRound brackets.Special ≡ brackets.Square → ⊥
     other_end true f = cc
     other_end false f = cc
-square_closed sharp_square closer e = absurd (other_end (is_sign (codes "]") closer) e)
+square_closed brackets.SharpSquare closer e = absurd (other_end (is_sign (codes "]") closer) e)
   where
-    other_end : (b : Bool) → cond b sharp_square special ≡ square → ⊥
+    other_end : (b : Bool) → cond b brackets.SharpSquare brackets.Special ≡ brackets.Square → ⊥
     other_end true f = cc
     other_end false f = cc
-square_closed (statement kind) closer e = absurd (other_end (is_word (codes "end") closer) e)
+square_closed (brackets.Statement kind) closer e = absurd (other_end (is_word (codes "end") closer) e)
   where
-    other_end : (b : Bool) → cond b (statement kind) special ≡ square → ⊥
+    other_end : (b : Bool) → cond b (brackets.Statement kind) brackets.Special ≡ brackets.Square → ⊥
     other_end true f = cc
     other_end false f = cc
-square_closed special closer e = absurd cc
+square_closed brackets.Special closer e = absurd cc
 
-pub statement_closed : (bracket : Bracket) (closer : Token) (kind : Keyword) → closed_by bracket closer ≡ statement kind → closed_by bracket (made kinds.Name (codes "end")) ≡ statement kind
-statement_closed round closer kind e = absurd (other_end (is_sign (codes ")") closer) e)
+pub statement_closed : (bracket : Bracket) (closer : Token) (kind : Keyword) → closed_by bracket closer ≡ brackets.Statement kind → closed_by bracket (made kinds.Name (codes "end")) ≡ brackets.Statement kind
+statement_closed brackets.Round closer kind e = absurd (other_end (is_sign (codes ")") closer) e)
   where
-    other_end : (b : Bool) → cond b round special ≡ statement kind → ⊥
+    other_end : (b : Bool) → cond b brackets.Round brackets.Special ≡ brackets.Statement kind → ⊥
     other_end true f = cc
     other_end false f = cc
-statement_closed square closer kind e = absurd (other_end (is_sign (codes "]") closer) e)
+statement_closed brackets.Square closer kind e = absurd (other_end (is_sign (codes "]") closer) e)
   where
-    other_end : (b : Bool) → cond b square special ≡ statement kind → ⊥
+    other_end : (b : Bool) → cond b brackets.Square brackets.Special ≡ brackets.Statement kind → ⊥
     other_end true f = cc
     other_end false f = cc
-statement_closed hidden closer kind e = absurd (other_end (is_sign [] closer) e)
+statement_closed brackets.Hidden closer kind e = absurd (other_end (is_sign [] closer) e)
   where
-    other_end : (b : Bool) → cond b hidden special ≡ statement kind → ⊥
+    other_end : (b : Bool) → cond b brackets.Hidden brackets.Special ≡ brackets.Statement kind → ⊥
     other_end true f = cc
     other_end false f = cc
-statement_closed sharp_round closer kind e = absurd (other_end (is_sign (codes ")") closer) e)
+statement_closed brackets.SharpRound closer kind e = absurd (other_end (is_sign (codes ")") closer) e)
   where
-    other_end : (b : Bool) → cond b sharp_round special ≡ statement kind → ⊥
+    other_end : (b : Bool) → cond b brackets.SharpRound brackets.Special ≡ brackets.Statement kind → ⊥
     other_end true f = cc
     other_end false f = cc
-statement_closed sharp_square closer kind e = absurd (other_end (is_sign (codes "]") closer) e)
+statement_closed brackets.SharpSquare closer kind e = absurd (other_end (is_sign (codes "]") closer) e)
   where
-    other_end : (b : Bool) → cond b sharp_square special ≡ statement kind → ⊥
+    other_end : (b : Bool) → cond b brackets.SharpSquare brackets.Special ≡ brackets.Statement kind → ⊥
     other_end true f = cc
     other_end false f = cc
-statement_closed (statement found) closer kind e = same (is_word (codes "end") closer) e
+statement_closed (brackets.Statement found) closer kind e = same (is_word (codes "end") closer) e
   where
-    same : (b : Bool) → cond b (statement found) special ≡ statement kind → statement found ≡ statement kind
+    same : (b : Bool) → cond b (brackets.Statement found) brackets.Special ≡ brackets.Statement kind → brackets.Statement found ≡ brackets.Statement kind
     same true f = f
     same false f = absurd cc
-statement_closed special closer kind e = absurd cc
+statement_closed brackets.Special closer kind e = absurd cc
 
 literal_same : (role : Role) (token : Token) (form : LiteralForm) → token_literal role token ≡ Some form → written_literal form ≡ one token ∷ []
-literal_same integer token form e = ap written_literal (sym (some_one _ _ e))
-literal_same character token form e = ap written_literal (sym (some_one _ _ e))
-literal_same string token form e = ap written_literal (sym (some_one _ _ e))
-literal_same boolean token form e = ap written_literal (sym (some_one _ _ e))
-literal_same symbol token form e = ap written_literal (sym (some_one _ _ e))
+literal_same roles.Integer token form e = ap written_literal (sym (some_one _ _ e))
+literal_same roles.Character token form e = ap written_literal (sym (some_one _ _ e))
+literal_same roles.Text token form e = ap written_literal (sym (some_one _ _ e))
+literal_same roles.Boolean token form e = ap written_literal (sym (some_one _ _ e))
+literal_same roles.Symbol token form e = ap written_literal (sym (some_one _ _ e))
 literal_same role token form e = absurd cc
 
 pub literal_written : (form : LiteralForm) (fragments : Fragments) → IsLiteral form fragments → IsLiteral form (written_literal form)

@@ -2,14 +2,18 @@
 use Rattle.std.specs.Prelude.{Bool, true, false, not, ◌&&◌, List, [], ◌∷◌}
 use Rattle.std.specs.List.{list_any}
 use Rattle.dy_tree.specs.Fragments.{SeenFragment, one, group, row}
-use Rattle.dy_rules.specs.Roles.{Role, integer, character, string, boolean, symbol, named, minus, tilde, comma, role_of, Bracket, round, square, hidden, sharp_round, sharp_square, statement, special, bracket_of}
+use Rattle.dy_tree.specs.declared.roles.Role.{Role}
+use Rattle.dy_tree.specs.declared.roles.Role.TheVariants as roles
+use Rattle.dy_tree.specs.declared.brackets.Bracket.{Bracket}
+use Rattle.dy_tree.specs.declared.brackets.Bracket.TheVariants as brackets
+use Rattle.dy_rules.specs.Roles.{role_of, bracket_of}
 
 abbrev pub is_symbol : Role → Bool
-is_symbol symbol = true
+is_symbol roles.Symbol = true
 is_symbol _ = false
 
 abbrev pub is_comma : Role → Bool
-is_comma comma = true
+is_comma roles.Comma = true
 is_comma _ = false
 
 abbrev pub is_comma_fragment : SeenFragment → Bool
@@ -19,21 +23,21 @@ is_comma_fragment (group opener inner closer) = false
 -- Behind an operand these begin nothing, and so another operand alone. Round brackets would be a call, and a
 -- minus a difference.
 abbrev pub begins_operand : Role → Bool
-begins_operand integer = true
-begins_operand character = true
-begins_operand string = true
-begins_operand boolean = true
-begins_operand symbol = true
-begins_operand named = true
-begins_operand tilde = true
+begins_operand roles.Integer = true
+begins_operand roles.Character = true
+begins_operand roles.Text = true
+begins_operand roles.Boolean = true
+begins_operand roles.Symbol = true
+begins_operand roles.Named = true
+begins_operand roles.Tilde = true
 begins_operand _ = false
 
 abbrev pub group_begins_operand : Bracket → Bool
-group_begins_operand hidden = true
-group_begins_operand sharp_round = true
-group_begins_operand sharp_square = true
-group_begins_operand (statement kind) = true
-group_begins_operand special = true
+group_begins_operand brackets.Hidden = true
+group_begins_operand brackets.SharpRound = true
+group_begins_operand brackets.SharpSquare = true
+group_begins_operand (brackets.Statement kind) = true
+group_begins_operand brackets.Special = true
 group_begins_operand _ = false
 
 abbrev pub only_begins_operand : SeenFragment → Bool
@@ -51,20 +55,20 @@ is_single [] = false
 is_single (first ∷ rest) = not (list_any is_comma_fragment (first ∷ rest)) && not (symbol_and_value first rest)
 
 abbrev pub is_minus : Role → Bool
-is_minus minus = true
+is_minus roles.Minus = true
 is_minus _ = false
 
 abbrev pub group_begins_value : Bracket → List SeenFragment → Bool
-group_begins_value round inner = is_single inner
-group_begins_value square inner = false
-group_begins_value hidden inner = true
-group_begins_value sharp_round inner = true
-group_begins_value sharp_square inner = true
-group_begins_value (statement kind) inner = true
-group_begins_value special inner = true
+group_begins_value brackets.Round inner = is_single inner
+group_begins_value brackets.Square inner = false
+group_begins_value brackets.Hidden inner = true
+group_begins_value brackets.SharpRound inner = true
+group_begins_value brackets.SharpSquare inner = true
+group_begins_value (brackets.Statement kind) inner = true
+group_begins_value brackets.Special inner = true
 
 abbrev pub role_begins_value : Role → Bool
-role_begins_value minus = true
+role_begins_value roles.Minus = true
 role_begins_value role = begins_operand role
 
 -- Behind a symbol at the front of an argument an expression begins here.

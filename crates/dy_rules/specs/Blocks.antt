@@ -2,9 +2,14 @@
 use Rattle.std.specs.Prelude.{Bool, true, false, List, [], ◌∷◌, Option, Some, None, option_map, option_and_then}
 use Rattle.dy_tree.specs.declared.token.Token.{Token}
 use Rattle.dy_tree.specs.Fragments.{SeenFragment, one, group, row}
+use Rattle.dy_tree.specs.declared.roles.Role.{Role}
+use Rattle.dy_tree.specs.declared.roles.Role.TheVariants as roles
+use Rattle.dy_tree.specs.declared.splitters.Splitting.TheVariants as splittings
+use Rattle.dy_tree.specs.declared.splitters.Splitter.{Splitter}
+use Rattle.dy_tree.specs.declared.splitters.Splitter.TheVariants as splitters
 use Rattle.dy_rules.specs.Types.{TypeTree}
 use Rattle.dy_rules.specs.Trees.{Tree, block_tree, ItemTree, body_of, BlockClause, afterwards_clause, cleanup_clause, exception_clause, block_clauses_of}
-use Rattle.dy_rules.specs.Roles.{Role, named, role_of, endings, Splitter, afterwards_word, cleanup_word, exception_word}
+use Rattle.dy_rules.specs.Roles.{role_of}
 use Rattle.dy_rules.specs.Productions.{suit_block}
 use Rattle.dy_rules.specs.Cutting.{Caught, Item, Piece, Pieces, is_splitter, cut, with_others, Front, headed, word_of}
 use Rattle.dy_rules.specs.TypeReading.{type_items, is_colons}
@@ -14,7 +19,7 @@ abbrev pub caught_of : Option Token → TypeTree → Caught
 caught_of variable condition = record { variable = variable; condition = condition }
 
 abbrev pub caught_named : Role → Token → Option TypeTree → Option Caught
-caught_named named token condition = option_map (caught_of (Some token)) condition
+caught_named roles.Named token condition = option_map (caught_of (Some token)) condition
 caught_named _ token condition = None
 
 abbrev pub caught_with : SeenFragment → Option TypeTree → Option Caught
@@ -32,7 +37,7 @@ caught_items (first ∷ []) = option_map (caught_of None) (type_items (first ∷
 caught_items (first ∷ second ∷ rest) = caught_if (is_colons second.fragment) first second rest
 
 abbrev pub exit_token : Role → Token → Option (Option Token)
-exit_token named token = Some (Some token)
+exit_token roles.Named token = Some (Some token)
 exit_token _ token = None
 
 abbrev pub exit_in : List SeenFragment → Option (Option Token)
@@ -54,15 +59,15 @@ abbrev pub exception_of : Caught → List ItemTree → BlockClause
 exception_of caught trees = exception_clause caught.variable caught.condition (body_of trees)
 
 abbrev pub exception_with : List Item → Caught → Option BlockClause
-exception_with rest caught = option_map (exception_of caught) (body_items endings rest)
+exception_with rest caught = option_map (exception_of caught) (body_items splittings.Endings rest)
 
 abbrev pub exception_items : Front → Option BlockClause
 exception_items front = option_and_then (exception_with front.rest) front.first.found.caught
 
 abbrev pub block_clause_at : Splitter → List Item → Option BlockClause
-block_clause_at afterwards_word items = option_map afterwards_of (body_items endings items)
-block_clause_at cleanup_word items = option_map cleanup_of (body_items endings items)
-block_clause_at exception_word items = option_and_then exception_items (headed items)
+block_clause_at splitters.Afterwards items = option_map afterwards_of (body_items splittings.Endings items)
+block_clause_at splitters.Cleanup items = option_map cleanup_of (body_items splittings.Endings items)
+block_clause_at splitters.Exception items = option_and_then exception_items (headed items)
 block_clause_at _ items = None
 
 -- the clauses behind the body of a block
@@ -84,7 +89,7 @@ abbrev pub block_body : Token → Option Token → Option (List BlockClause) →
 block_body word exit clauses trees = option_and_then (block_suits word exit trees) clauses
 
 abbrev pub block_pieces : Token → Pieces → Option Token → Option Tree
-block_pieces word pieces exit = option_and_then (block_body word exit (block_clauses_in pieces.others)) (body_items endings pieces.first)
+block_pieces word pieces exit = option_and_then (block_body word exit (block_clauses_in pieces.others)) (body_items splittings.Endings pieces.first)
 
 abbrev pub block_items : Token → Front → Option Tree
-block_items word front = option_and_then (block_pieces word (cut (is_splitter endings) false front.rest)) (exit_inside front.first.fragment)
+block_items word front = option_and_then (block_pieces word (cut (is_splitter splittings.Endings) false front.rest)) (exit_inside front.first.fragment)

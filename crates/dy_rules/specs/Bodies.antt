@@ -2,10 +2,16 @@
 use Rattle.std.specs.Prelude.{Bool, true, false, List, [], ◌∷◌, Option, Some, None, option_map, option_and_then}
 use Rattle.dy_tree.specs.declared.token.Token.{Token}
 use Rattle.dy_tree.specs.Fragments.{SeenFragment, one, group}
+use Rattle.dy_tree.specs.declared.roles.Role.{Role}
+use Rattle.dy_tree.specs.declared.roles.Role.TheVariants as roles
+use Rattle.dy_tree.specs.declared.brackets.Keyword.TheVariants as keywords
+use Rattle.dy_tree.specs.declared.brackets.Bracket.{Bracket}
+use Rattle.dy_tree.specs.declared.brackets.Bracket.TheVariants as brackets
+use Rattle.dy_tree.specs.declared.splitters.Splitting.{Splitting}
 use Rattle.dy_rules.specs.Trees.{Tree, ItemTree, let_item, handler_item, expression_item, body_of, local_item, LocalMethod, local_method, methods_of, parameters_of}
 use Rattle.dy_rules.specs.Types.{is_equals, TypeTree, binds_plainly, TargetTree}
 use Rattle.dy_rules.specs.TypeReading.{type_items, target_items}
-use Rattle.dy_rules.specs.Roles.{Role, lets, handlers, role_of, Splitting, Bracket, bracket_of, locals, statement, method_word}
+use Rattle.dy_rules.specs.Roles.{role_of, bracket_of}
 use Rattle.dy_rules.specs.Cutting.{Item, is_semicolon, cut, each, without_end, Sides, first_cut, fragments_in, NamedFound}
 use Rattle.dy_rules.specs.Reading.{expression_items}
 use Rattle.dy_rules.specs.Arguments.{is_comma_fragment}
@@ -17,8 +23,8 @@ pub data ItemFront : Type 0 where
   other_front : ItemFront
 
 abbrev pub front_by : Role → Token → ItemFront
-front_by lets word = let_front word
-front_by locals word = local_front word
+front_by roles.Lets word = let_front word
+front_by roles.Locals word = local_front word
 front_by _ word = other_front
 
 abbrev pub front_of_item : SeenFragment → ItemFront
@@ -30,7 +36,7 @@ is_equals_at (one token) = is_equals token
 is_equals_at (group opener inner closer) = false
 
 abbrev pub is_handler_role : Role → Bool
-is_handler_role handlers = true
+is_handler_role roles.Handlers = true
 is_handler_role _ = false
 
 abbrev pub is_handler : SeenFragment → Bool
@@ -69,7 +75,7 @@ abbrev pub method_tree_of : Token → NamedFound → LocalMethod
 method_tree_of word named = local_method word named.token (parameters_of named.method.found named.method.results) (body_of named.method.trees)
 
 abbrev pub method_in : Bracket → Token → Option NamedFound → Option LocalMethod
-method_in (statement method_word) word named = option_map (method_tree_of word) named
+method_in (brackets.Statement keywords.Method) word named = option_map (method_tree_of word) named
 method_in _ word named = None
 
 abbrev pub method_at : SeenFragment → Option NamedFound → Option LocalMethod

@@ -1,8 +1,12 @@
 -- The arms of a case or a select, by functions that compute. The pieces between the semicolons are read from the end on.
 use Rattle.std.specs.Prelude.{Bool, true, false, List, [], ◌∷◌, Option, Some, None, option_map, option_and_then}
 use Rattle.dy_tree.specs.Fragments.{SeenFragment, one, group}
+use Rattle.dy_tree.specs.declared.roles.Role.{Role}
+use Rattle.dy_tree.specs.declared.roles.Role.TheVariants as roles
+use Rattle.dy_tree.specs.declared.splitters.Splitting.{Splitting}
+use Rattle.dy_tree.specs.declared.splitters.Splitting.TheVariants as splittings
 use Rattle.dy_rules.specs.Trees.{Tree, ItemTree, body_of, Otherwise, no_otherwise, otherwise, Arm, arm, tests_of}
-use Rattle.dy_rules.specs.Roles.{Role, remains, role_of, Splitting, nothing, tests}
+use Rattle.dy_rules.specs.Roles.{role_of}
 use Rattle.dy_rules.specs.Arguments.{is_comma_fragment}
 use Rattle.dy_rules.specs.Productions.{suits}
 use Rattle.dy_rules.specs.Cutting.{Head, Item, Piece, Pieces, is_semicolon, is_arrow, is_splitter, cut, each, without_end}
@@ -10,7 +14,7 @@ use Rattle.dy_rules.specs.Reading.{expression_items}
 use Rattle.dy_rules.specs.Bodies.{item_items}
 
 abbrev pub is_remains_role : Role → Bool
-is_remains_role remains = true
+is_remains_role roles.Remains = true
 is_remains_role _ = false
 
 -- `otherwise`
@@ -71,7 +75,7 @@ body_with words [] (tree ∷ lead) = None
 body_with words (item ∷ rest) lead = option_map (lead_before lead) (item_items words (item ∷ rest))
 
 abbrev pub tests_items : List Item → Option (List Tree)
-tests_items items = each (expression_items nothing) (cut is_comma_fragment false items)
+tests_items items = each (expression_items splittings.Nothing) (cut is_comma_fragment false items)
 
 abbrev pub arm_of : List Tree → List Arm → Otherwise → List ItemTree → Choices
 arm_of trees arms last body = choices_of [] (arm (tests_of trees) (body_of body) ∷ arms) last
@@ -113,7 +117,7 @@ finished_choices found = finished_lead found.lead found
 
 abbrev pub some_arms_items : Bool → List Item → Option Choices
 some_arms_items single [] = None
-some_arms_items single (item ∷ rest) = option_and_then finished_choices (choices_pieces nothing single (cut is_semicolon false (item ∷ rest)))
+some_arms_items single (item ∷ rest) = option_and_then finished_choices (choices_pieces splittings.Nothing single (cut is_semicolon false (item ∷ rest)))
 
 abbrev pub arms_items : Bool → List Item → Option Choices
 arms_items single [] = Some no_choices
@@ -126,11 +130,11 @@ abbrev pub head_by : Tree → Tree → Head
 head_by selected test = record { selected = selected; test = Some test }
 
 abbrev pub head_with : List Item → Tree → Option Head
-head_with items selected = option_map (head_by selected) (expression_items tests items)
+head_with items selected = option_map (head_by selected) (expression_items splittings.Tests items)
 
 abbrev pub head_behind : List Item → List Piece → Option Head
-head_behind first [] = option_map head_alone (expression_items tests first)
-head_behind first (piece ∷ []) = option_and_then (head_with piece.items) (expression_items tests first)
+head_behind first [] = option_map head_alone (expression_items splittings.Tests first)
+head_behind first (piece ∷ []) = option_and_then (head_with piece.items) (expression_items splittings.Tests first)
 head_behind first (piece ∷ second ∷ others) = None
 
 abbrev pub head_pieces : Pieces → Option Head
@@ -138,4 +142,4 @@ head_pieces pieces = head_behind pieces.first pieces.others
 
 -- what stands between the brackets of a select
 abbrev pub head_items : List Item → Option Head
-head_items items = head_pieces (cut (is_splitter tests) false items)
+head_items items = head_pieces (cut (is_splitter splittings.Tests) false items)

@@ -3,7 +3,11 @@ use Rattle.std.specs.Prelude.{List, [], ◌∷◌, ◌++◌, Option, Some, None,
 use Rattle.dy_tree.specs.declared.token.Token.{Token}
 use Rattle.dy_tree.specs.declared.types.LiteralForm.{LiteralForm}
 use Rattle.dy_tree.specs.Fragments.{SeenFragment, one, group, SeenFragments, no_fragment, fragment_and}
-use Rattle.dy_rules.specs.Roles.{Role, integer, minus, dot, comma, role_of, negative, Bracket, sharp_round, sharp_square, bracket_of}
+use Rattle.dy_tree.specs.declared.roles.Role.{Role}
+use Rattle.dy_tree.specs.declared.roles.Role.TheVariants as roles
+use Rattle.dy_tree.specs.declared.brackets.Bracket.{Bracket}
+use Rattle.dy_tree.specs.declared.brackets.Bracket.TheVariants as brackets
+use Rattle.dy_rules.specs.Roles.{role_of, negative, bracket_of}
 use Rattle.dy_rules.specs.ConstantTrees.{Constant, literal_item, list_item, vector_item, constants_of, tail_of}
 use Rattle.dy_rules.specs.Constants.{token_literal}
 
@@ -57,16 +61,16 @@ abbrev pub known_vector : Token → List Constant → Element
 known_vector opener items = known (vector_item opener (constants_of items))
 
 abbrev pub at_element : Role → Token → Option Element
-at_element minus token = Some (after_sign token)
+at_element roles.Minus token = Some (after_sign token)
 at_element role token = option_map known_literal (token_literal role token)
 
 abbrev pub at_digits : Role → Token → Token → Option Element
-at_digits integer sign token = Some (known_literal (negative sign token))
+at_digits roles.Integer sign token = Some (known_literal (negative sign token))
 at_digits _ sign token = None
 
 abbrev pub group_element : Bracket → Token → Option Listing → Option Element
-group_element sharp_round opener found = option_map (known_list opener) (option_and_then list_found found)
-group_element sharp_square opener found = option_map (known_vector opener) (option_and_then vector_found found)
+group_element brackets.SharpRound opener found = option_map (known_list opener) (option_and_then list_found found)
+group_element brackets.SharpSquare opener found = option_map (known_vector opener) (option_and_then vector_found found)
 group_element _ opener found = None
 
 abbrev pub element_step : Element → ConstantItem → Option Element
@@ -77,8 +81,8 @@ element_step (after_sign sign) (group_of kind opener found) = None
 element_step (known value) item = None
 
 abbrev pub behind_constant : Role → List Constant → Option Listing
-behind_constant comma items = Some (element items comes)
-behind_constant dot items = Some (ending items comes)
+behind_constant roles.Comma items = Some (element items comes)
+behind_constant roles.Dot items = Some (ending items comes)
 behind_constant _ items = None
 
 abbrev pub listing_step : Listing → ConstantItem → Option Listing

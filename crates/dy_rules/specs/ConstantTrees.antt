@@ -1,5 +1,5 @@
 -- Lists and vectors of literals without where they lie in memory (DRM, appendix A).
-use Rattle.std.specs.Prelude.{List, [], ◌∷◌, Option, Some, None}
+use Rattle.std.specs.Prelude.{Bool, true, false, List, [], ◌∷◌, Option, Some, None}
 use Rattle.dy_tree.specs.declared.token.Token.{Token}
 use Rattle.dy_tree.specs.declared.types.LiteralForm.{LiteralForm}
 
@@ -25,3 +25,8 @@ constants_of (first ∷ rest) = constant_and first (constants_of rest)
 abbrev pub tail_of : Option Constant → Tail
 tail_of None = no_tail
 tail_of (Some value) = tail value
+
+-- whether a list is `#()`
+abbrev pub is_nil : Constants → Tail → Bool
+is_nil no_constant no_tail = true
+is_nil _ _ = false

@@ -2,8 +2,15 @@
 use Rattle.std.specs.Prelude.{Bool, true, false, not, ◌&&◌, List, [], ◌∷◌, Option, Some, None, option_map}
 use Rattle.dy_tree.specs.Fragments.{SeenFragment, one, group}
 use Rattle.dy_tree.specs.declared.token.Token.{Token}
+use Rattle.dy_tree.specs.declared.roles.Role.{Role}
+use Rattle.dy_tree.specs.declared.roles.Role.TheVariants as roles
+use Rattle.dy_tree.specs.declared.brackets.Bracket.{Bracket}
+use Rattle.dy_tree.specs.declared.brackets.Bracket.TheVariants as brackets
+use Rattle.dy_tree.specs.declared.splitters.Splitting.{Splitting}
+use Rattle.dy_tree.specs.declared.splitters.Splitter.{Splitter}
+use Rattle.dy_tree.specs.declared.splitters.Splitter.TheVariants as splitters
 use Rattle.dy_rules.specs.Trees.{Tree, Argument, ForClause, StopTree, Listed, ItemTree}
-use Rattle.dy_rules.specs.Roles.{Role, semicolon, lets, role_of, Splitting, splits, Bracket, round, bracket_of, Splitter, no_splitter, splitter_of}
+use Rattle.dy_rules.specs.Roles.{role_of, splits, bracket_of, splitter_of}
 use Rattle.dy_rules.specs.Types.{TypeTree, Bound, VariableTree, ResultTree, is_arrow_role}
 
 -- the class and the bounds of a limited type
@@ -67,7 +74,7 @@ pub record Pieces : Type 0 where
   pub others : List Piece
 
 abbrev pub is_semicolon_role : Role → Bool
-is_semicolon_role semicolon = true
+is_semicolon_role roles.Semicolon = true
 is_semicolon_role _ = false
 
 abbrev pub is_semicolon : SeenFragment → Bool
@@ -79,7 +86,7 @@ is_arrow (one token) = is_arrow_role (role_of token)
 is_arrow (group opener inner closer) = false
 
 abbrev pub is_let_role : Role → Bool
-is_let_role lets = true
+is_let_role roles.Lets = true
 is_let_role _ = false
 
 abbrev pub is_let : SeenFragment → Bool
@@ -174,7 +181,7 @@ pub record Front : Type 0 where
   pub rest : List Item
 
 abbrev pub front_in : Bracket → Item → List Item → Option Front
-front_in round item rest = Some (record { first = item; rest = rest })
+front_in brackets.Round item rest = Some (record { first = item; rest = rest })
 front_in _ item rest = None
 
 abbrev pub front_at : SeenFragment → Item → List Item → Option Front
@@ -189,4 +196,4 @@ headed (item ∷ rest) = front_at item.fragment item rest
 -- the word that a piece stands behind
 abbrev pub word_of : SeenFragment → Splitter
 word_of (one token) = splitter_of token
-word_of (group opener inner closer) = no_splitter
+word_of (group opener inner closer) = splitters.Absent

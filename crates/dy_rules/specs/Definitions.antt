@@ -4,104 +4,95 @@ use Rattle.std.specs.List.{list_any}
 use Rattle.dy_tree.specs.declared.token.TokenKind.{TokenKind}
 use Rattle.dy_tree.specs.declared.token.TokenKind.TheVariants as kinds
 use Rattle.dy_tree.specs.declared.token.Token.{Token}
-use Rattle.dy_rules.specs.Roles.{Role, named, symbol, boolean, role_of, is_same, is_among}
-
-pub data DefineWord : Type 0 where
-  open_word : DefineWord
-  sealed_word : DefineWord
-  abstract_word : DefineWord
-  concrete_word : DefineWord
-  primary_word : DefineWord
-  free_word : DefineWord
-  -- `inline` and the like
-  inlining_word : DefineWord
-  class_definition : DefineWord
-  method_definition : DefineWord
-  function_definition : DefineWord
-  generic_definition : DefineWord
-  constant_definition : DefineWord
-  variable_definition : DefineWord
-  domain_definition : DefineWord
-  no_define_word : DefineWord
+use Rattle.dy_tree.specs.declared.roles.Role.{Role}
+use Rattle.dy_tree.specs.declared.roles.Role.TheVariants as roles
+use Rattle.dy_tree.specs.declared.definition_words.DefineWord.{DefineWord}
+use Rattle.dy_tree.specs.declared.definition_words.DefineWord.TheVariants as define_words
+use Rattle.dy_tree.specs.declared.definition_words.SlotWord.{SlotWord}
+use Rattle.dy_tree.specs.declared.definition_words.SlotWord.TheVariants as slot_words
+use Rattle.dy_tree.specs.declared.definition_words.OptionWord.{OptionWord}
+use Rattle.dy_tree.specs.declared.definition_words.OptionWord.TheVariants as option_words
+use Rattle.dy_tree.specs.Spelling.{is_spelled}
+use Rattle.dy_rules.specs.Roles.{role_of, is_among}
 
 abbrev pub inlinings : List (List ℕ)
 inlinings = codes "inline" ∷ codes "not-inline" ∷ codes "may-inline" ∷ codes "default-inline" ∷ codes "inline-only" ∷ []
 
-abbrev pub define_word_text : List ℕ → DefineWord
-define_word_text text =
-    if is_same text (codes "open") then open_word
-    else if is_same text (codes "sealed") then sealed_word
-    else if is_same text (codes "abstract") then abstract_word
-    else if is_same text (codes "concrete") then concrete_word
-    else if is_same text (codes "primary") then primary_word
-    else if is_same text (codes "free") then free_word
-    else if is_among inlinings text then inlining_word
-    else if is_same text (codes "class") then class_definition
-    else if is_same text (codes "method") then method_definition
-    else if is_same text (codes "function") then function_definition
-    else if is_same text (codes "generic") then generic_definition
-    else if is_same text (codes "constant") then constant_definition
-    else if is_same text (codes "variable") then variable_definition
-    else if is_same text (codes "domain") then domain_definition
-    else no_define_word
+abbrev pub spelled_define_word : Token → DefineWord
+spelled_define_word token =
+    if is_spelled (codes "open") token then define_words.Open
+    else if is_spelled (codes "sealed") token then define_words.Sealed
+    else if is_spelled (codes "abstract") token then define_words.Abstract
+    else if is_spelled (codes "concrete") token then define_words.Concrete
+    else if is_spelled (codes "primary") token then define_words.Primary
+    else if is_spelled (codes "free") token then define_words.Free
+    else if is_among inlinings token then define_words.Inlining
+    else if is_spelled (codes "class") token then define_words.Class
+    else if is_spelled (codes "method") token then define_words.Method
+    else if is_spelled (codes "function") token then define_words.Function
+    else if is_spelled (codes "generic") token then define_words.Generic
+    else if is_spelled (codes "constant") token then define_words.Constant
+    else if is_spelled (codes "variable") token then define_words.Variable
+    else if is_spelled (codes "domain") token then define_words.Domain
+    else define_words.Absent
 
 -- An escaped name is never a word.
 abbrev pub define_word_by : Role → TokenKind → Token → DefineWord
-define_word_by named kinds.Name token = define_word_text token.text
-define_word_by _ _ token = no_define_word
+define_word_by roles.Named kinds.Name token = spelled_define_word token
+define_word_by _ _ token = define_words.Absent
 
 abbrev pub define_word_of : Token → DefineWord
 define_word_of token = define_word_by (role_of token) token.kind token
 
 -- a word that says what is defined
 abbrev pub is_definition : DefineWord → Bool
-is_definition class_definition = true
-is_definition method_definition = true
-is_definition function_definition = true
-is_definition generic_definition = true
-is_definition constant_definition = true
-is_definition variable_definition = true
-is_definition domain_definition = true
+is_definition define_words.Class = true
+is_definition define_words.Method = true
+is_definition define_words.Function = true
+is_definition define_words.Generic = true
+is_definition define_words.Constant = true
+is_definition define_words.Variable = true
+is_definition define_words.Domain = true
 is_definition _ = false
 
 abbrev pub is_definition_word : Token → Bool
 is_definition_word token = is_definition (define_word_of token)
 
 abbrev pub is_class_adjective : DefineWord → Bool
-is_class_adjective open_word = true
-is_class_adjective sealed_word = true
-is_class_adjective abstract_word = true
-is_class_adjective concrete_word = true
-is_class_adjective primary_word = true
-is_class_adjective free_word = true
+is_class_adjective define_words.Open = true
+is_class_adjective define_words.Sealed = true
+is_class_adjective define_words.Abstract = true
+is_class_adjective define_words.Concrete = true
+is_class_adjective define_words.Primary = true
+is_class_adjective define_words.Free = true
 is_class_adjective _ = false
 
 abbrev pub is_open : DefineWord → Bool
-is_open open_word = true
+is_open define_words.Open = true
 is_open _ = false
 
 abbrev pub is_sealed : DefineWord → Bool
-is_sealed sealed_word = true
+is_sealed define_words.Sealed = true
 is_sealed _ = false
 
 abbrev pub is_abstract : DefineWord → Bool
-is_abstract abstract_word = true
+is_abstract define_words.Abstract = true
 is_abstract _ = false
 
 abbrev pub is_concrete : DefineWord → Bool
-is_concrete concrete_word = true
+is_concrete define_words.Concrete = true
 is_concrete _ = false
 
 abbrev pub is_primary : DefineWord → Bool
-is_primary primary_word = true
+is_primary define_words.Primary = true
 is_primary _ = false
 
 abbrev pub is_free : DefineWord → Bool
-is_free free_word = true
+is_free define_words.Free = true
 is_free _ = false
 
 abbrev pub is_inlining : DefineWord → Bool
-is_inlining inlining_word = true
+is_inlining define_words.Inlining = true
 is_inlining _ = false
 
 abbrev pub has : (DefineWord → Bool) → List Token → Bool
@@ -140,41 +131,33 @@ abbrev pub suit_binding : List Token → Bool
 suit_binding [] = true
 suit_binding (first ∷ rest) = false
 
--- the words of a slot
-pub data SlotWord : Type 0 where
-  constant_slot : SlotWord
-  -- `instance`, `class`, `each-subclass` or `virtual`
-  allocation : SlotWord
-  slot_word : SlotWord
-  no_slot_word : SlotWord
-
-abbrev pub slot_word_text : List ℕ → SlotWord
-slot_word_text text =
-    if is_same text (codes "constant") then constant_slot
-    else if is_among (codes "instance" ∷ codes "class" ∷ codes "each-subclass" ∷ codes "virtual" ∷ []) text then allocation
-    else if is_same text (codes "slot") then slot_word
-    else no_slot_word
+abbrev pub spelled_slot_word : Token → SlotWord
+spelled_slot_word token =
+    if is_spelled (codes "constant") token then slot_words.Constant
+    else if is_among (codes "instance" ∷ codes "class" ∷ codes "each-subclass" ∷ codes "virtual" ∷ []) token then slot_words.Allocation
+    else if is_spelled (codes "slot") token then slot_words.Slot
+    else slot_words.Absent
 
 abbrev pub slot_word_by : Role → TokenKind → Token → SlotWord
-slot_word_by named kinds.Name token = slot_word_text token.text
-slot_word_by _ _ token = no_slot_word
+slot_word_by roles.Named kinds.Name token = spelled_slot_word token
+slot_word_by _ _ token = slot_words.Absent
 
 abbrev pub slot_word_of : Token → SlotWord
 slot_word_of token = slot_word_by (role_of token) token.kind token
 
 abbrev pub is_slot : SlotWord → Bool
-is_slot slot_word = true
+is_slot slot_words.Slot = true
 is_slot _ = false
 
 abbrev pub is_slot_word : Token → Bool
 is_slot_word token = is_slot (slot_word_of token)
 
 abbrev pub is_constant_slot : SlotWord → Bool
-is_constant_slot constant_slot = true
+is_constant_slot slot_words.Constant = true
 is_constant_slot _ = false
 
 abbrev pub is_allocation : SlotWord → Bool
-is_allocation allocation = true
+is_allocation slot_words.Allocation = true
 is_allocation _ = false
 
 -- one allocation at most, and `constant` before it
@@ -184,34 +167,25 @@ suit_slot (first ∷ []) = is_constant_slot (slot_word_of first) || is_allocatio
 suit_slot (first ∷ second ∷ []) = is_constant_slot (slot_word_of first) && is_allocation (slot_word_of second)
 suit_slot (first ∷ second ∷ third ∷ rest) = false
 
--- the options of a slot
-pub data OptionWord : Type 0 where
-  keyword_option : OptionWord
-  required_option : OptionWord
-  value_option : OptionWord
-  function_option : OptionWord
-  setter_option : OptionWord
-  no_option_word : OptionWord
-
-abbrev pub option_word_text : List ℕ → OptionWord
-option_word_text text =
-    if is_same text (codes "init-keyword") then keyword_option
-    else if is_same text (codes "required-init-keyword") then required_option
-    else if is_same text (codes "init-value") then value_option
-    else if is_same text (codes "init-function") then function_option
-    else if is_same text (codes "setter") then setter_option
-    else no_option_word
+abbrev pub spelled_option_word : Token → OptionWord
+spelled_option_word token =
+    if is_spelled (codes "init-keyword") token then option_words.Keyword
+    else if is_spelled (codes "required-init-keyword") token then option_words.Required
+    else if is_spelled (codes "init-value") token then option_words.Value
+    else if is_spelled (codes "init-function") token then option_words.Function
+    else if is_spelled (codes "setter") token then option_words.Setter
+    else option_words.Absent
 
 abbrev pub option_word_by : Role → Token → OptionWord
-option_word_by symbol token = option_word_text token.text
-option_word_by _ token = no_option_word
+option_word_by roles.Symbol token = spelled_option_word token
+option_word_by _ token = option_words.Absent
 
 abbrev pub option_word : Token → OptionWord
 option_word token = option_word_by (role_of token) token
 
 abbrev pub setter_by : Role → Token → Bool
-setter_by named token = true
-setter_by boolean token = is_same (codes "#f") token.text
+setter_by roles.Named token = true
+setter_by roles.Boolean token = is_spelled (codes "#f") token
 setter_by _ token = false
 
 -- the name of a setter, or `#f`

@@ -46,10 +46,11 @@ abbrev pub target_depth : TargetTree → ℕ
 target_depth (one_target variable) = variable_depth variable
 target_depth (several variables rest) = variables_depth variables
 
+-- The value that a parameter is compared with is as deep as a name.
 abbrev pub required_depth : List RequiredTree → ℕ
 required_depth [] = 0
 required_depth (required_variable variable ∷ rest) = max (variable_depth variable) (required_depth rest)
-required_depth (required_single token single ∷ rest) = required_depth rest
+required_depth (required_single token single ∷ rest) = max 1 (required_depth rest)
 
 abbrev pub given_depth : Option VariableTree → ℕ
 given_depth None = 0

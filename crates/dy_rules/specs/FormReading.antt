@@ -2,8 +2,19 @@
 use Rattle.std.specs.Prelude.{Bool, true, false, List, [], ◌∷◌, Option, Some, None, option_map, option_and_then}
 use Rattle.dy_tree.specs.declared.token.Token.{Token}
 use Rattle.dy_tree.specs.Fragments.{SeenFragment, one, group, SeenFragments, row}
+use Rattle.dy_tree.specs.declared.roles.Role.{Role}
+use Rattle.dy_tree.specs.declared.roles.Role.TheVariants as roles
+use Rattle.dy_tree.specs.declared.brackets.Keyword.TheVariants as keywords
+use Rattle.dy_tree.specs.declared.brackets.Bracket.{Bracket}
+use Rattle.dy_tree.specs.declared.brackets.Bracket.TheVariants as brackets
+use Rattle.dy_tree.specs.declared.splitters.Splitting.TheVariants as splittings
+use Rattle.dy_tree.specs.declared.definition_words.DefineWord.{DefineWord}
+use Rattle.dy_tree.specs.declared.definition_words.DefineWord.TheVariants as define_words
+use Rattle.dy_tree.specs.declared.definition_words.OptionWord.{OptionWord}
+use Rattle.dy_tree.specs.declared.definition_words.OptionWord.TheVariants as option_words
 use Rattle.dy_rules.specs.Trees.{Tree, MaybeTree, Listed, parameters_of, body_of}
-use Rattle.dy_rules.specs.Roles.{Role, named, symbol, defines, role_of, nothing, Bracket, statement, define_word, bracket_of}
+use Rattle.dy_rules.specs.Roles.{role_of, bracket_of}
+use Rattle.dy_rules.specs.Tests.{if_passes}
 use Rattle.dy_rules.specs.Types.{TypeTree, VariableTree, TargetTree}
 use Rattle.dy_rules.specs.Arguments.{is_comma, is_comma_fragment}
 use Rattle.dy_rules.specs.Cutting.{NamedFound, Item, Piece, Pieces, is_semicolon, cut, each_other, with_others, Sides, first_cut, fragments_in, Front, headed}
@@ -12,8 +23,8 @@ use Rattle.dy_rules.specs.Reading.{expression_items}
 use Rattle.dy_rules.specs.Bodies.{is_equals_at}
 use Rattle.dy_rules.specs.Signatures.{ResultsFront, results_front, initial_items, named_items}
 use Rattle.dy_rules.specs.Fragments.{items_in, items_of, expression_of}
-use Rattle.dy_rules.specs.Definitions.{DefineWord, class_definition, method_definition, function_definition, generic_definition, constant_definition, variable_definition, domain_definition, define_word_of, is_definition_word, suit_class, suit_function, suit_method, suit_generic, suit_domain, suit_binding, suit_slot, is_slot_word, OptionWord, keyword_option, required_option, value_option, function_option, setter_option, option_word, is_setter}
-use Rattle.dy_rules.specs.Forms.{SlotOption, init_keyword, required_init_keyword, init_value, init_function, setter, SlotTree, no_defaults, FormTree, expression_form, class_form, constant_form, variable_form, generic_form, method_form, function_form, domain_form}
+use Rattle.dy_rules.specs.Definitions.{define_word_of, is_definition_word, suit_class, suit_function, suit_method, suit_generic, suit_domain, suit_binding, suit_slot, is_slot_word, option_word, is_setter}
+use Rattle.dy_rules.specs.Forms.{SlotOption, init_keyword, required_init_keyword, init_value, init_function, setter, SlotTree, is_consistent, no_defaults, FormTree, expression_form, class_form, constant_form, variable_form, generic_form, method_form, function_form, domain_form}
 
 -- the words in front of the first one that the test finds, that one, and what stands behind it
 pub record WordsFront : Type 0 where
@@ -37,7 +48,7 @@ words_front is [] = None
 words_front is (item ∷ rest) = word_at is item.fragment rest (words_front is rest)
 
 abbrev pub with_name : Role → Token → Option (List Token) → Option (List Token)
-with_name named token others = option_map (λ names. token ∷ names) others
+with_name roles.Named token others = option_map (λ names. token ∷ names) others
 with_name _ token others = None
 
 abbrev pub names_behind : Bool → Option (List Token) → Option (List Token)
@@ -50,7 +61,7 @@ names_in (one token ∷ one separator ∷ rest) = with_name (role_of token) toke
 names_in _ = None
 
 abbrev pub symbol_of : Role → Token → Option Token
-symbol_of symbol token = Some token
+symbol_of roles.Symbol token = Some token
 symbol_of _ token = None
 
 abbrev pub symbol_in : List SeenFragment → Option Token
@@ -78,11 +89,11 @@ abbrev pub function_of : Tree → SlotOption
 function_of tree = init_function tree
 
 abbrev pub option_by : OptionWord → List Item → Option SlotOption
-option_by keyword_option rest = option_map keyword_of (symbol_in (fragments_in rest))
-option_by required_option rest = option_map required_of (symbol_in (fragments_in rest))
-option_by value_option rest = option_map value_of (expression_items nothing rest)
-option_by function_option rest = option_map function_of (expression_items nothing rest)
-option_by setter_option rest = setter_in (fragments_in rest)
+option_by option_words.Keyword rest = option_map keyword_of (symbol_in (fragments_in rest))
+option_by option_words.Required rest = option_map required_of (symbol_in (fragments_in rest))
+option_by option_words.Value rest = option_map value_of (expression_items splittings.Nothing rest)
+option_by option_words.Function rest = option_map function_of (expression_items splittings.Nothing rest)
+option_by option_words.Setter rest = setter_in (fragments_in rest)
 option_by _ rest = None
 
 abbrev pub option_at : SeenFragment → List Item → Option SlotOption
@@ -113,7 +124,7 @@ abbrev pub slot_pieces : Pieces → Option SlotTree
 slot_pieces pieces = option_and_then (slot_front (each_other option_items pieces.others)) (words_front is_slot_word pieces.first)
 
 abbrev pub slot_items : List Item → Option SlotTree
-slot_items items = slot_pieces (cut is_comma_fragment false items)
+slot_items items = option_and_then (if_passes is_consistent) (slot_pieces (cut is_comma_fragment false items))
 
 -- slots with a semicolon behind each
 abbrev pub slots_from : List Item → List Piece → Option (List SlotTree)
@@ -141,7 +152,7 @@ abbrev pub class_headed : Token → List Token → Token → Front → Option Fo
 class_headed define adjectives token front = option_and_then (class_with define adjectives token front.rest) (names_inside front.first.fragment)
 
 abbrev pub class_named : Role → Token → List Token → Token → List Item → Option FormTree
-class_named named define adjectives token rest = option_and_then (class_headed define adjectives token) (headed rest)
+class_named roles.Named define adjectives token rest = option_and_then (class_headed define adjectives token) (headed rest)
 class_named _ define adjectives token rest = None
 
 abbrev pub class_at : Token → List Token → SeenFragment → List Item → Option FormTree
@@ -163,9 +174,9 @@ if_suits true found = found
 if_suits false found = None
 
 abbrev pub ended_by : DefineWord → Token → List Token → Token → List Item → Option FormTree
-ended_by class_definition define adjectives word rest = if_suits (suit_class adjectives) (class_items define adjectives rest)
-ended_by method_definition define adjectives word rest = if_suits (suit_method adjectives) (option_map (method_of_form define adjectives word) (named_items rest))
-ended_by function_definition define adjectives word rest = if_suits (suit_function adjectives) (option_map (function_of_form define adjectives) (named_items rest))
+ended_by define_words.Class define adjectives word rest = if_suits (suit_class adjectives) (class_items define adjectives rest)
+ended_by define_words.Method define adjectives word rest = if_suits (suit_method adjectives) (option_map (method_of_form define adjectives word) (named_items rest))
+ended_by define_words.Function define adjectives word rest = if_suits (suit_function adjectives) (option_map (function_of_form define adjectives) (named_items rest))
 ended_by _ define adjectives word rest = None
 
 -- a definition with an `end`
@@ -179,7 +190,7 @@ abbrev pub variable_of_form : Token → TargetTree → Tree → FormTree
 variable_of_form define target assigned = variable_form define target assigned
 
 abbrev pub bound_with : (TargetTree → Tree → FormTree) → List Item → TargetTree → Option FormTree
-bound_with form after target = option_map (form target) (expression_items nothing after)
+bound_with form after target = option_map (form target) (expression_items splittings.Nothing after)
 
 abbrev pub bound_sides : (TargetTree → Tree → FormTree) → Sides → Option FormTree
 bound_sides form sides = option_and_then (bound_with form sides.after) (target_items sides.before)
@@ -208,7 +219,7 @@ abbrev pub generic_headed : Token → List Token → Token → Front → Option 
 generic_headed define adjectives token front = option_and_then (generic_listed define adjectives token front.rest) front.first.found.listed
 
 abbrev pub generic_named : Role → Token → List Token → Token → List Item → Option FormTree
-generic_named named define adjectives token rest = option_and_then (generic_headed define adjectives token) (headed rest)
+generic_named roles.Named define adjectives token rest = option_and_then (generic_headed define adjectives token) (headed rest)
 generic_named _ define adjectives token rest = None
 
 abbrev pub generic_at : Token → List Token → SeenFragment → List Item → Option FormTree
@@ -230,7 +241,7 @@ abbrev pub domain_headed : Token → Token → Front → Option FormTree
 domain_headed define token front = domain_end define token front.first front.rest
 
 abbrev pub domain_named : Role → Token → Token → List Item → Option FormTree
-domain_named named define token rest = option_and_then (domain_headed define token) (headed rest)
+domain_named roles.Named define token rest = option_and_then (domain_headed define token) (headed rest)
 domain_named _ define token rest = None
 
 abbrev pub domain_at : Token → SeenFragment → List Item → Option FormTree
@@ -242,10 +253,10 @@ domain_items define [] = None
 domain_items define (item ∷ rest) = domain_at define item.fragment rest
 
 abbrev pub flat_by : DefineWord → Token → List Token → List Item → Option FormTree
-flat_by constant_definition define adjectives rest = if_suits (suit_binding adjectives) (bound_items_of (constant_of_form define) rest)
-flat_by variable_definition define adjectives rest = if_suits (suit_binding adjectives) (bound_items_of (variable_of_form define) rest)
-flat_by generic_definition define adjectives rest = if_suits (suit_generic adjectives) (generic_items define adjectives rest)
-flat_by domain_definition define adjectives rest = if_suits (suit_domain adjectives) (domain_items define rest)
+flat_by define_words.Constant define adjectives rest = if_suits (suit_binding adjectives) (bound_items_of (constant_of_form define) rest)
+flat_by define_words.Variable define adjectives rest = if_suits (suit_binding adjectives) (bound_items_of (variable_of_form define) rest)
+flat_by define_words.Generic define adjectives rest = if_suits (suit_generic adjectives) (generic_items define adjectives rest)
+flat_by define_words.Domain define adjectives rest = if_suits (suit_domain adjectives) (domain_items define rest)
 flat_by _ define adjectives rest = None
 
 -- a definition without an `end`
@@ -259,11 +270,11 @@ pub data FormFront : Type 0 where
   flat_front : (define : Token) (rest : List SeenFragment) → FormFront
 
 abbrev pub front_of_group : Bracket → Token → SeenFragments → FormFront
-front_of_group (statement define_word) opener inner = group_front opener inner
+front_of_group (brackets.Statement keywords.Define) opener inner = group_front opener inner
 front_of_group _ opener inner = expression_front
 
 abbrev pub front_of_token : Role → Token → List SeenFragment → FormFront
-front_of_token defines token rest = flat_front token rest
+front_of_token roles.Defines token rest = flat_front token rest
 front_of_token _ token rest = expression_front
 
 abbrev pub form_front : List SeenFragment → FormFront
@@ -275,7 +286,7 @@ abbrev pub expression_of_form : Tree → FormTree
 expression_of_form tree = expression_form tree
 
 abbrev pub form_by : FormFront → List SeenFragment → Option FormTree
-form_by expression_front fragments = option_map expression_of_form (expression_of nothing fragments)
+form_by expression_front fragments = option_map expression_of_form (expression_of splittings.Nothing fragments)
 form_by (group_front define inner) fragments = option_and_then (ended_definition define) (words_front is_definition_word (items_in inner))
 form_by (flat_front define rest) fragments = option_and_then (flat_definition define) (words_front is_definition_word (items_of rest))
 

@@ -2,9 +2,13 @@
 use Rattle.std.specs.Prelude.{List, [], ◌∷◌, Option, None, map, option_map}
 use Rattle.dy_tree.specs.declared.token.Token.{Token}
 use Rattle.dy_tree.specs.Fragments.{SeenFragment, one, group, SeenFragments, no_fragment, fragment_and}
+use Rattle.dy_tree.specs.declared.brackets.Bracket.{Bracket}
+use Rattle.dy_tree.specs.declared.brackets.Bracket.TheVariants as brackets
+use Rattle.dy_tree.specs.declared.splitters.Splitting.{Splitting}
+use Rattle.dy_tree.specs.declared.splitters.Splitting.TheVariants as splittings
 use Rattle.dy_rules.specs.ConstantTrees.{Constant, constants_of, tail_of}
 use Rattle.dy_rules.specs.Trees.{Tree, Argument, list, vector, ItemTree}
-use Rattle.dy_rules.specs.Roles.{Splitting, nothing, Bracket, sharp_round, sharp_square, statement, bracket_of}
+use Rattle.dy_rules.specs.Roles.{bracket_of}
 use Rattle.dy_rules.specs.ConstantReading.{Inside, list_in, vector_in}
 use Rattle.dy_rules.specs.Cutting.{Found, Item}
 use Rattle.dy_rules.specs.Reading.{expression_items, passed_items}
@@ -24,10 +28,10 @@ vector_tree opener items = vector opener (constants_of items)
 
 -- the tree that a group holds
 abbrev pub tree_inside : Bracket → Token → SeenFragments → List Item → Option Tree
-tree_inside sharp_round opener inner items = option_map (list_tree opener) (list_in inner)
-tree_inside sharp_square opener inner items = option_map (vector_tree opener) (vector_in inner)
-tree_inside (statement kind) opener inner items = statement_items kind opener items
-tree_inside _ opener inner items = expression_items nothing items
+tree_inside brackets.SharpRound opener inner items = option_map (list_tree opener) (list_in inner)
+tree_inside brackets.SharpSquare opener inner items = option_map (vector_tree opener) (vector_in inner)
+tree_inside (brackets.Statement kind) opener inner items = statement_items kind opener items
+tree_inside _ opener inner items = expression_items splittings.Nothing items
 
 abbrev pub nothing_found : Found
 nothing_found = record { tree = None; passed = None; types = None; limits = None; bound = None; head = None; caught = None; given = None; listed = None; method = None; named_method = None; clauses = None }

@@ -3,6 +3,7 @@ pub mod ConstantTrees
 pub mod Trees
 pub mod Roles
 pub mod Arguments
+pub mod Tests
 pub mod Productions
 pub mod Types
 pub mod Cutting
@@ -29,3 +30,4 @@ pub mod FormDepth
 pub mod Parsing
 pub mod SeenTypes
 pub mod SeenForms
+pub mod Held

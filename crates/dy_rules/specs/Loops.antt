@@ -2,9 +2,11 @@
 use Rattle.std.specs.Prelude.{Bool, true, false, List, [], ◌∷◌, Option, Some, None, option_map, option_and_then}
 use Rattle.dy_tree.specs.declared.token.Token.{Token}
 use Rattle.dy_tree.specs.Fragments.{SeenFragment, one, group}
+use Rattle.dy_tree.specs.declared.splitters.Splitting.TheVariants as splittings
+use Rattle.dy_tree.specs.declared.splitters.Splitter.{Splitter}
+use Rattle.dy_tree.specs.declared.splitters.Splitter.TheVariants as splitters
 use Rattle.dy_rules.specs.Types.{VariableTree, binds_plainly}
 use Rattle.dy_rules.specs.Trees.{Tree, for_tree, ItemTree, body_of, Otherwise, no_otherwise, otherwise, ForClause, then_clause, in_clause, from_clause, for_clauses_of, MaybeLimit, no_limit, a_limit, MaybeTree, no_tree, some_tree, StopTree, stop_of}
-use Rattle.dy_rules.specs.Roles.{steps, last_part, Splitter, then_word, from_word, by_word, finally_word, in_word}
 use Rattle.dy_rules.specs.Arguments.{is_comma_fragment}
 use Rattle.dy_rules.specs.Productions.{is_stop_word, is_limit_word}
 use Rattle.dy_rules.specs.Cutting.{Ending, Item, Piece, Pieces, is_splitter, cut, ending, fragments_in, Front, word_of}
@@ -13,7 +15,7 @@ use Rattle.dy_rules.specs.Reading.{expression_items}
 use Rattle.dy_rules.specs.Bodies.{is_equals_at, body_items}
 
 abbrev pub is_in_word : Splitter → Bool
-is_in_word in_word = true
+is_in_word splitters.In = true
 is_in_word _ = false
 
 abbrev pub is_in : SeenFragment → Bool
@@ -31,7 +33,7 @@ abbrev pub step_of : Tree → Range
 step_of tree = range_of no_limit (some_tree tree)
 
 abbrev pub step_at : Splitter → List Item → Option Range
-step_at by_word items = option_map step_of (expression_items steps items)
+step_at splitters.By items = option_map step_of (expression_items splittings.Steps items)
 step_at _ items = None
 
 -- a step, or nothing
@@ -47,7 +49,7 @@ abbrev pub limit_with : Token → Option Range → Tree → Option Range
 limit_with word rest bound = option_map (with_limit word bound) rest
 
 abbrev pub limit_token : SeenFragment → List Item → Option Range → Option Range
-limit_token (one word) items rest = option_and_then (limit_with word rest) (expression_items steps items)
+limit_token (one word) items rest = option_and_then (limit_with word rest) (expression_items splittings.Steps items)
 limit_token (group opener inner closer) items rest = None
 
 abbrev pub range_if : Bool → Piece → List Piece → Option Range
@@ -65,7 +67,7 @@ abbrev pub from_with : VariableTree → Option Range → Tree → Option ForClau
 from_with variable range start = option_map (from_of variable start) range
 
 abbrev pub from_at : Splitter → VariableTree → List Item → List Piece → Option ForClause
-from_at from_word variable items others = option_and_then (from_with variable (range_in others)) (expression_items steps items)
+from_at splitters.From variable items others = option_and_then (from_with variable (range_in others)) (expression_items splittings.Steps items)
 from_at _ variable items others = None
 
 abbrev pub from_in : VariableTree → List Piece → Option ForClause
@@ -76,10 +78,10 @@ abbrev pub then_of : VariableTree → Tree → Tree → ForClause
 then_of variable first next = then_clause variable first next
 
 abbrev pub then_with : VariableTree → List Item → Tree → Option ForClause
-then_with variable items first = option_map (then_of variable first) (expression_items steps items)
+then_with variable items first = option_map (then_of variable first) (expression_items splittings.Steps items)
 
 abbrev pub then_at : Splitter → VariableTree → List Item → List Item → Option ForClause
-then_at then_word variable first items = option_and_then (then_with variable items) (expression_items steps first)
+then_at splitters.Then variable first items = option_and_then (then_with variable items) (expression_items splittings.Steps first)
 then_at _ variable first items = None
 
 abbrev pub then_in : VariableTree → List Item → List Piece → Option ForClause
@@ -90,7 +92,7 @@ abbrev pub in_of : VariableTree → Tree → ForClause
 in_of variable collection = in_clause variable collection
 
 abbrev pub in_in : VariableTree → List Item → List Piece → Option ForClause
-in_in variable items [] = option_map (in_of variable) (expression_items steps items)
+in_in variable items [] = option_map (in_of variable) (expression_items splittings.Steps items)
 in_in variable items (piece ∷ others) = None
 
 abbrev pub equals_if : Bool → VariableTree → List Item → List Piece → Option ForClause
@@ -113,11 +115,11 @@ clause_if true pieces = option_and_then (clause_with pieces.others) (variable_fr
 clause_if false pieces = None
 
 abbrev pub clause_pieces : Pieces → Option ForClause
-clause_pieces pieces = clause_if (binds_plainly steps (fragments_in pieces.first)) pieces
+clause_pieces pieces = clause_if (binds_plainly splittings.Steps (fragments_in pieces.first)) pieces
 
 -- The name that is bound stands by its position.
 abbrev pub clause_items : List Item → Option ForClause
-clause_items items = clause_pieces (cut (is_splitter steps) true items)
+clause_items items = clause_pieces (cut (is_splitter splittings.Steps) true items)
 
 abbrev pub is_stop_at : SeenFragment → Bool
 is_stop_at (one token) = is_stop_word token
@@ -131,7 +133,7 @@ abbrev pub stop_with : Token → Tree → StopTree
 stop_with keyword test = record { keyword = keyword; test = test }
 
 abbrev pub stop_token : SeenFragment → List Item → Option StopTree
-stop_token (one keyword) rest = option_map (stop_with keyword) (expression_items steps rest)
+stop_token (one keyword) rest = option_map (stop_with keyword) (expression_items splittings.Steps rest)
 stop_token (group opener inner closer) rest = None
 
 abbrev pub stop_items : List Item → Option StopTree
@@ -147,7 +149,7 @@ abbrev pub finally_of : List ItemTree → Otherwise
 finally_of trees = otherwise (body_of trees)
 
 abbrev pub finally_at : Splitter → List Item → Option Otherwise
-finally_at finally_word items = option_map finally_of (body_items last_part items)
+finally_at splitters.Finally items = option_map finally_of (body_items splittings.LastPart items)
 finally_at _ items = None
 
 abbrev pub finally_in : List Piece → Option Otherwise
@@ -162,7 +164,7 @@ abbrev pub for_body : Token → Ending ForClause StopTree → Option Otherwise �
 for_body word head last trees = option_map (for_of word head trees) last
 
 abbrev pub for_pieces : Token → Pieces → Ending ForClause StopTree → Option Tree
-for_pieces word pieces head = option_and_then (for_body word head (finally_in pieces.others)) (body_items last_part pieces.first)
+for_pieces word pieces head = option_and_then (for_body word head (finally_in pieces.others)) (body_items splittings.LastPart pieces.first)
 
 abbrev pub for_statement : Token → Front → Option Tree
-for_statement word front = option_and_then (for_pieces word (cut (is_splitter last_part) false front.rest)) front.first.found.clauses
+for_statement word front = option_and_then (for_pieces word (cut (is_splitter splittings.LastPart) false front.rest)) front.first.found.clauses

@@ -1,24 +1,12 @@
 -- Operators and words by kind (DRM, appendix A).
 use Rattle.std.specs.Prelude.{ℕ}
-
--- the left associative binary operators, those that bind tightest first
-pub data Precedence : Type 0 where
-  power : Precedence
-  product : Precedence
-  sum : Precedence
-  comparison : Precedence
-  logical : Precedence
+use Rattle.dy_tree.specs.declared.roles.Precedence.{Precedence}
+use Rattle.dy_tree.specs.declared.roles.Precedence.TheVariants as precedences
 
 -- how many of them bind tighter
 abbrev pub below : Precedence → ℕ
-below power = 0
-below product = 1
-below sum = 2
-below comparison = 3
-below logical = 4
-
--- statements of a test and a body
-pub data Guard : Type 0 where
-  unless : Guard
-  while : Guard
-  until : Guard
+below precedences.Power = 0
+below precedences.Product = 1
+below precedences.Sum = 2
+below precedences.Comparison = 3
+below precedences.Logical = 4

@@ -4,10 +4,18 @@ use Rattle.std.specs.Prelude.{ℕ, suc, Bool, true, false, nat_lt, if◌then◌e
 use Rattle.dy_tree.specs.declared.token.Token.{Token}
 use Rattle.dy_tree.specs.declared.types.LiteralForm.TheVariants as literals
 use Rattle.dy_tree.specs.Fragments.{SeenFragment, one, group}
-use Rattle.dy_rules.specs.Operators.{Precedence, sum, below}
+use Rattle.dy_tree.specs.declared.roles.Role.{Role}
+use Rattle.dy_tree.specs.declared.roles.Role.TheVariants as roles
+use Rattle.dy_tree.specs.declared.roles.Precedence.{Precedence}
+use Rattle.dy_tree.specs.declared.roles.Precedence.TheVariants as precedences
+use Rattle.dy_tree.specs.declared.brackets.Bracket.{Bracket}
+use Rattle.dy_tree.specs.declared.brackets.Bracket.TheVariants as brackets
+use Rattle.dy_tree.specs.declared.splitters.Splitting.{Splitting}
+use Rattle.dy_tree.specs.declared.splitters.Splitting.TheVariants as splittings
+use Rattle.dy_rules.specs.Operators.{below}
 use Rattle.dy_rules.specs.Trees.{Tree, assignment, operation, unary, call, element, member, literal, name, Argument, keyword, value, arguments_of}
 use Rattle.dy_rules.specs.Cutting.{Found, Item}
-use Rattle.dy_rules.specs.Roles.{Role, integer, character, string, boolean, symbol, named, operator, minus, tilde, assigns, dot, comma, role_of, Splitting, nothing, splits, Bracket, round, square, hidden, bracket_of, positive, negative, sharp_round, sharp_square, statement}
+use Rattle.dy_rules.specs.Roles.{role_of, splits, bracket_of, positive, negative}
 use Rattle.dy_rules.specs.Arguments.{begins_value}
 
 -- what an operand will be a part of
@@ -50,7 +58,7 @@ finished tree (assigned place outer) = finished (assignment place tree) outer
 
 -- an integer with the sign in front of it
 abbrev pub under_sign : Role → Token → Token → Outer → Part
-under_sign minus sign digits outer = (literal (negative sign digits), outer)
+under_sign roles.Minus sign digits outer = (literal (negative sign digits), outer)
 under_sign _ sign digits outer = (literal (positive digits), under sign outer)
 
 abbrev pub integer_part : Token → Outer → Part
@@ -68,14 +76,14 @@ name_if true token outer = None
 name_if false token outer = Some (has (name token) outer)
 
 abbrev pub at_operand : Splitting → Outer → Token → Role → Option State
-at_operand words outer token integer = Some (counted token outer)
-at_operand words outer token character = Some (has (literal (literals.Char token)) outer)
-at_operand words outer token string = Some (has (literal (literals.Str token)) outer)
-at_operand words outer token boolean = Some (has (literal (literals.Bool token)) outer)
-at_operand words outer token symbol = Some (has (literal (literals.Symbol token)) outer)
-at_operand words outer token named = name_if (splits words token) token outer
-at_operand words outer token minus = Some (wants (under token outer))
-at_operand words outer token tilde = Some (wants (under token outer))
+at_operand words outer token roles.Integer = Some (counted token outer)
+at_operand words outer token roles.Character = Some (has (literal (literals.Char token)) outer)
+at_operand words outer token roles.Text = Some (has (literal (literals.Str token)) outer)
+at_operand words outer token roles.Boolean = Some (has (literal (literals.Bool token)) outer)
+at_operand words outer token roles.Symbol = Some (has (literal (literals.Symbol token)) outer)
+at_operand words outer token roles.Named = name_if (splits words token) token outer
+at_operand words outer token roles.Minus = Some (wants (under token outer))
+at_operand words outer token roles.Tilde = Some (wants (under token outer))
 at_operand words outer token _ = None
 
 abbrev pub operates : Precedence → Token → Part → State
@@ -86,10 +94,10 @@ assigns_to part = wants (assigned part.0 part.1)
 
 -- behind an operand, which is this part by itself, and that one with the sign in front of it
 abbrev pub behind : Part → Part → Token → Role → Option State
-behind alone part token (operator precedence) = Some (operates precedence token (reduced (suc (below precedence)) part.0 part.1))
-behind alone part token minus = Some (operates sum token (reduced (suc (below sum)) part.0 part.1))
-behind alone part token assigns = Some (assigns_to (reduced 5 part.0 part.1))
-behind alone part token dot = Some (dotted alone.0 alone.1)
+behind alone part token (roles.Operator precedence) = Some (operates precedence token (reduced (suc (below precedence)) part.0 part.1))
+behind alone part token roles.Minus = Some (operates precedences.Sum token (reduced (suc (below precedences.Sum)) part.0 part.1))
+behind alone part token roles.Assigns = Some (assigns_to (reduced 5 part.0 part.1))
+behind alone part token roles.Dot = Some (dotted alone.0 alone.1)
 behind alone part token _ = None
 
 abbrev pub member_if : Bool → Tree → Outer → Token → Option State
@@ -97,7 +105,7 @@ member_if true tree outer token = None
 member_if false tree outer token = Some (has (member tree token) outer)
 
 abbrev pub behind_dot : Splitting → Tree → Outer → Token → Role → Option State
-behind_dot words tree outer token named = member_if (splits words token) tree outer token
+behind_dot words tree outer token roles.Named = member_if (splits words token) tree outer token
 behind_dot words tree outer token _ = None
 
 abbrev pub at_token : Splitting → State → Token → Option State
@@ -116,16 +124,16 @@ abbrev pub called : Part → List Argument → State
 called part passed = has (call part.0 (arguments_of passed)) part.1
 
 abbrev pub group_behind : Part → Token → Bracket → Option Tree → Option (List Argument) → Option State
-group_behind part opener round tree passed = option_map (called part) passed
-group_behind part opener square tree passed = option_map (indexed part opener) tree
+group_behind part opener brackets.Round tree passed = option_map (called part) passed
+group_behind part opener brackets.Square tree passed = option_map (indexed part opener) tree
 group_behind part opener _ tree passed = None
 
 abbrev pub group_at_operand : Outer → Bracket → Option Tree → Option State
-group_at_operand outer round tree = option_map (in_brackets outer) tree
-group_at_operand outer hidden tree = option_map (in_brackets outer) tree
-group_at_operand outer sharp_round tree = option_map (in_brackets outer) tree
-group_at_operand outer sharp_square tree = option_map (in_brackets outer) tree
-group_at_operand outer (statement kind) tree = option_map (in_brackets outer) tree
+group_at_operand outer brackets.Round tree = option_map (in_brackets outer) tree
+group_at_operand outer brackets.Hidden tree = option_map (in_brackets outer) tree
+group_at_operand outer brackets.SharpRound tree = option_map (in_brackets outer) tree
+group_at_operand outer brackets.SharpSquare tree = option_map (in_brackets outer) tree
+group_at_operand outer (brackets.Statement kind) tree = option_map (in_brackets outer) tree
 group_at_operand outer _ tree = None
 
 -- a group behind this opener, whose inside is this expression and these arguments
@@ -172,7 +180,7 @@ arguments_at_end nothing_passed = Some []
 arguments_at_end reader = arguments_in reader
 
 abbrev pub fresh_role : Role → List Argument → Token → Option Passing
-fresh_role symbol passed token = Some (symbol_first passed token)
+fresh_role roles.Symbol passed token = Some (symbol_first passed token)
 fresh_role _ passed token = None
 
 -- a symbol at the front of an argument
@@ -181,7 +189,7 @@ fresh passed (one token) = fresh_role (role_of token) passed token
 fresh passed (group opener inner closer) = None
 
 abbrev pub at_comma : Role → Passing → Option Passing
-at_comma comma reader = option_map passes_next (arguments_in reader)
+at_comma roles.Comma reader = option_map passes_next (arguments_in reader)
 at_comma _ reader = None
 
 abbrev pub at_separator : Passing → SeenFragment → Option Passing
@@ -201,7 +209,7 @@ abbrev pub after_item : Splitting → State → Item → Option State
 after_item words state item = after_fragment words state item.fragment item.found
 
 abbrev pub in_value : List Argument → Option Token → State → Item → Option Passing
-in_value passed token state item = option_map (passing passed token) (after_item nothing state item)
+in_value passed token state item = option_map (passing passed token) (after_item splittings.Nothing state item)
 
 -- Behind a symbol at the front of an argument: it is passed with the value that begins here, or it is an operand.
 abbrev pub by_symbol : Bool → List Argument → Token → SeenFragment → Item → Option Passing

@@ -2,6 +2,8 @@
 use Rattle.std.specs.Prelude.{List, [], ◌∷◌, map, Option, Some, None, option_map}
 use Rattle.dy_tree.specs.declared.expression.Expression.{Expression}
 use Rattle.dy_tree.specs.declared.expression.Expression as expressions
+use Rattle.dy_tree.specs.declared.expression.Statement.{Statement}
+use Rattle.dy_tree.specs.declared.expression.Statement as statements
 use Rattle.dy_tree.specs.declared.expression.Argument.{Argument}
 use Rattle.dy_tree.specs.declared.expression.Argument as passed
 use Rattle.dy_tree.specs.declared.expression.Item.{Item}
@@ -18,7 +20,6 @@ use Rattle.dy_tree.specs.declared.form.SlotOption.{SlotOption}
 use Rattle.dy_tree.specs.declared.form.SlotOption.TheVariants as options
 use Rattle.dy_tree.specs.declared.form.Form.{Form}
 use Rattle.dy_tree.specs.declared.form.Form.TheVariants as forms
-use Rattle.dy_rules.specs.Operators.{power, product, sum, comparison, logical, unless, while, until}
 use Rattle.dy_rules.specs.ConstantTrees.{constants_of, tail_of}
 use Rattle.dy_rules.specs.SeenTypes.{seen_constant, seen_type, seen_variable, seen_target, seen_required, seen_results}
 use Rattle.dy_rules.specs.Trees as trees
@@ -27,11 +28,7 @@ use Rattle.dy_rules.specs.Forms as written
 abbrev mutual
   pub seen_tree : Expression → trees.Tree
   seen_tree (expressions.Assign' p place q value) = trees.assignment (seen_tree place) (seen_tree value)
-  seen_tree (expressions.Logical' p left operator q right) = trees.operation logical (seen_tree left) operator (seen_tree right)
-  seen_tree (expressions.Comparison' p left operator q right) = trees.operation comparison (seen_tree left) operator (seen_tree right)
-  seen_tree (expressions.Sum' p left operator q right) = trees.operation sum (seen_tree left) operator (seen_tree right)
-  seen_tree (expressions.Product' p left operator q right) = trees.operation product (seen_tree left) operator (seen_tree right)
-  seen_tree (expressions.Power' p left operator q right) = trees.operation power (seen_tree left) operator (seen_tree right)
+  seen_tree (expressions.Operation' precedence p left operator q right) = trees.operation precedence (seen_tree left) operator (seen_tree right)
   seen_tree (expressions.Unary' operator p operand) = trees.unary operator (seen_tree operand)
   seen_tree (expressions.Call' p function shape arguments) = trees.call (seen_tree function) (seen_arguments arguments)
   seen_tree (expressions.Element' p object opener q index) = trees.element (seen_tree object) opener (seen_tree index)
@@ -40,16 +37,17 @@ abbrev mutual
   seen_tree (expressions.Name token) = trees.name token
   seen_tree (expressions.List opener constants last) = trees.list opener (constants_of (map seen_constant constants.items)) (tail_of (option_map seen_constant last))
   seen_tree (expressions.Vector opener constants) = trees.vector opener (constants_of (map seen_constant constants.items))
-  seen_tree (expressions.Begin' word shape body) = trees.begin_tree word (seen_body body)
-  seen_tree (expressions.Method' word p signature shape body) = trees.method_tree word (seen_parameters signature) (seen_body body)
-  seen_tree (expressions.If' word p test shape body others alternatives last) = trees.if_tree word (seen_tree test) (seen_body body) (seen_alternatives alternatives) (seen_otherwise last)
-  seen_tree (expressions.Unless' word p test shape body) = trees.guarded unless word (seen_tree test) (seen_body body)
-  seen_tree (expressions.While' word p test shape body) = trees.guarded while word (seen_tree test) (seen_body body)
-  seen_tree (expressions.Until' word p test shape body) = trees.guarded until word (seen_tree test) (seen_body body)
-  seen_tree (expressions.Case' word shape arms last) = trees.case_tree word (seen_arms arms) (seen_otherwise last)
-  seen_tree (expressions.Select' word p value test shape arms last) = trees.select_tree word (seen_tree value) (seen_test test) (seen_arms arms) (seen_otherwise last)
-  seen_tree (expressions.Block' word exit shape body others found) = trees.block_tree word exit (seen_body body) (seen_clauses found)
-  seen_tree (expressions.For' word shape found stop others body last) = trees.for_tree word (seen_for found) (seen_stop stop) (seen_body body) (seen_otherwise last)
+  seen_tree (expressions.Statement statement) = seen_statement statement
+
+  pub seen_statement : Statement → trees.Tree
+  seen_statement (statements.Begin' word shape body) = trees.begin_tree word (seen_body body)
+  seen_statement (statements.Method' word p signature shape body) = trees.method_tree word (seen_parameters signature) (seen_body body)
+  seen_statement (statements.If' word p test shape body others alternatives last) = trees.if_tree word (seen_tree test) (seen_body body) (seen_alternatives alternatives) (seen_otherwise last)
+  seen_statement (statements.Guarded' guard word p test shape body) = trees.guarded guard word (seen_tree test) (seen_body body)
+  seen_statement (statements.Case' word shape arms last) = trees.case_tree word (seen_arms arms) (seen_otherwise last)
+  seen_statement (statements.Select' word p value test shape arms last) = trees.select_tree word (seen_tree value) (seen_test test) (seen_arms arms) (seen_otherwise last)
+  seen_statement (statements.Block' word exit shape body others found) = trees.block_tree word exit (seen_body body) (seen_clauses found)
+  seen_statement (statements.For' word shape found stop others body last) = trees.for_tree word (seen_for found) (seen_stop stop) (seen_body body) (seen_otherwise last)
 
   pub seen_arguments : {m : _} → expressions.Row_of-Argument m → trees.Arguments
   seen_arguments expressions.end_of-Argument = trees.no_argument
@@ -59,9 +57,9 @@ abbrev mutual
   seen_argument (passed.Keyword token value) = trees.keyword token (seen_tree value)
   seen_argument (passed.Value value) = trees.value (seen_tree value)
 
-  pub seen_body : {m : _} → expressions.Row_of-Item m → trees.Body
-  seen_body expressions.end_of-Item = trees.no_item
-  seen_body (expressions.more_of-Item first rest) = trees.item_and (seen_item first) (seen_body rest)
+  pub seen_body : {m : _} → statements.Row_of-Item m → trees.Body
+  seen_body statements.end_of-Item = trees.no_item
+  seen_body (statements.more_of-Item first rest) = trees.item_and (seen_item first) (seen_body rest)
 
   pub seen_item : Item → trees.ItemTree
   seen_item (items.Let word target value) = trees.let_item word (seen_target target) (seen_tree value)
@@ -94,38 +92,38 @@ abbrev mutual
   seen_default loops.ForClause-From-3-None' = trees.no_tree
   seen_default (loops.ForClause-From-3-Some' value) = trees.some_tree (seen_tree value)
 
-  pub seen_alternatives : {m : _} → expressions.Row_of-Alternative m → trees.Alternatives
-  seen_alternatives expressions.end_of-Alternative = trees.no_alternative
-  seen_alternatives (expressions.more_of-Alternative test shape body rest) = trees.alternative_and (trees.alternative (seen_tree test) (seen_body body)) (seen_alternatives rest)
+  pub seen_alternatives : {m : _} → statements.Row_of-Alternative m → trees.Alternatives
+  seen_alternatives statements.end_of-Alternative = trees.no_alternative
+  seen_alternatives (statements.more_of-Alternative test shape body rest) = trees.alternative_and (trees.alternative (seen_tree test) (seen_body body)) (seen_alternatives rest)
 
-  pub seen_otherwise : expressions.Held-Expression-If-4 → trees.Otherwise
-  seen_otherwise expressions.Expression-If-4-None' = trees.no_otherwise
-  seen_otherwise (expressions.Expression-If-4-Some' shape body) = trees.otherwise (seen_body body)
+  pub seen_otherwise : statements.Held-Statement-If-4 → trees.Otherwise
+  seen_otherwise statements.Statement-If-4-None' = trees.no_otherwise
+  seen_otherwise (statements.Statement-If-4-Some' shape body) = trees.otherwise (seen_body body)
 
-  pub seen_arms : {m : _} → expressions.Row_of-Arm m → trees.Arms
-  seen_arms expressions.end_of-Arm = trees.no_arm
-  seen_arms (expressions.more_of-Arm shape tests others body rest) = trees.arm_and (trees.arm (seen_tests tests) (seen_body body)) (seen_arms rest)
+  pub seen_arms : {m : _} → statements.Row_of-Arm m → trees.Arms
+  seen_arms statements.end_of-Arm = trees.no_arm
+  seen_arms (statements.more_of-Arm shape tests others body rest) = trees.arm_and (trees.arm (seen_tests tests) (seen_body body)) (seen_arms rest)
 
-  pub seen_tests : {m : _} → expressions.Row_of-Expression m → trees.Tests
-  seen_tests expressions.end_of-Expression = trees.no_test
-  seen_tests (expressions.more_of-Expression first rest) = trees.test_and (seen_tree first) (seen_tests rest)
+  pub seen_tests : {m : _} → statements.Row_of-Expression m → trees.Tests
+  seen_tests statements.end_of-Expression = trees.no_test
+  seen_tests (statements.more_of-Expression first rest) = trees.test_and (seen_tree first) (seen_tests rest)
 
-  pub seen_test : expressions.Held-Expression-Select-2 → trees.MaybeTree
-  seen_test expressions.Expression-Select-2-None' = trees.no_tree
-  seen_test (expressions.Expression-Select-2-Some' p value) = trees.some_tree (seen_tree value)
+  pub seen_test : statements.Held-Statement-Select-2 → trees.MaybeTree
+  seen_test statements.Statement-Select-2-None' = trees.no_tree
+  seen_test (statements.Statement-Select-2-Some' p value) = trees.some_tree (seen_tree value)
 
-  pub seen_clauses : {m : _} → expressions.Row_of-BlockClause m → trees.BlockClauses
-  seen_clauses expressions.end_of-BlockClause = trees.no_clause
-  seen_clauses (expressions.more_of-BlockClause first rest) = trees.clause_and (seen_clause first) (seen_clauses rest)
+  pub seen_clauses : {m : _} → statements.Row_of-BlockClause m → trees.BlockClauses
+  seen_clauses statements.end_of-BlockClause = trees.no_clause
+  seen_clauses (statements.more_of-BlockClause first rest) = trees.clause_and (seen_clause first) (seen_clauses rest)
 
   pub seen_clause : BlockClause → trees.BlockClause
   seen_clause (clauses.Afterwards' shape body) = trees.afterwards_clause (seen_body body)
   seen_clause (clauses.Cleanup' shape body) = trees.cleanup_clause (seen_body body)
   seen_clause (clauses.Exception' variable condition shape body) = trees.exception_clause variable (seen_type condition) (seen_body body)
 
-  pub seen_for : {m : _} → expressions.Row_of-ForClause m → trees.ForClauses
-  seen_for expressions.end_of-ForClause = trees.no_for_clause
-  seen_for (expressions.more_of-ForClause first rest) = trees.for_clause_and (seen_for_clause first) (seen_for rest)
+  pub seen_for : {m : _} → statements.Row_of-ForClause m → trees.ForClauses
+  seen_for statements.end_of-ForClause = trees.no_for_clause
+  seen_for (statements.more_of-ForClause first rest) = trees.for_clause_and (seen_for_clause first) (seen_for rest)
 
   pub seen_for_clause : ForClause → trees.ForClause
   seen_for_clause (loops.Then variable first next) = trees.then_clause (seen_variable variable) (seen_tree first) (seen_tree next)
@@ -136,9 +134,9 @@ abbrev mutual
   seen_limit loops.ForClause-From-2-None' = trees.no_limit
   seen_limit (loops.ForClause-From-2-Some' word bound) = trees.a_limit word (seen_tree bound)
 
-  pub seen_stop : expressions.Held-Expression-For-2 → trees.MaybeStop
-  seen_stop expressions.Expression-For-2-None' = trees.no_stop
-  seen_stop (expressions.Expression-For-2-Some' p key test) = trees.a_stop key (seen_tree test)
+  pub seen_stop : statements.Held-Statement-For-2 → trees.MaybeStop
+  seen_stop statements.Statement-For-2-None' = trees.no_stop
+  seen_stop (statements.Statement-For-2-Some' p key test) = trees.a_stop key (seen_tree test)
 
 -- a body in memory of its own
 abbrev pub seen_items : List Item → List trees.ItemTree

@@ -2,9 +2,16 @@
 use Rattle.std.specs.Prelude.{Bool, true, false, List, [], ◌∷◌, codes, Option, Some, None, option_map, option_and_then}
 use Rattle.dy_tree.specs.declared.token.Token.{Token}
 use Rattle.dy_tree.specs.Fragments.{SeenFragment, one, group, SeenFragments, no_fragment}
-use Rattle.dy_rules.specs.Types.{is_identity, Single, VariableTree, RequiredTree, required_variable, required_single, ResultTree, several_results, one_result, PartWord, part_word, next_word, rest_word, key_word, all_keys_word, no_part_word}
+use Rattle.dy_tree.specs.declared.roles.Role.{Role}
+use Rattle.dy_tree.specs.declared.roles.Role.TheVariants as roles
+use Rattle.dy_tree.specs.declared.brackets.Bracket.{Bracket}
+use Rattle.dy_tree.specs.declared.brackets.Bracket.TheVariants as brackets
+use Rattle.dy_tree.specs.declared.splitters.Splitting.TheVariants as splittings
+use Rattle.dy_tree.specs.declared.type_words.PartWord.{PartWord}
+use Rattle.dy_tree.specs.declared.type_words.PartWord.TheVariants as part_words
+use Rattle.dy_rules.specs.Types.{is_identity, Single, VariableTree, RequiredTree, required_variable, required_single, ResultTree, several_results, one_result, part_word}
 use Rattle.dy_rules.specs.Trees.{Tree, MaybeTree, no_tree, some_tree, Key, a_key, KeysTree, Listed, ItemTree}
-use Rattle.dy_rules.specs.Roles.{Role, named, symbol, role_of, nothing, Bracket, round, bracket_of}
+use Rattle.dy_rules.specs.Roles.{role_of, bracket_of}
 use Rattle.dy_rules.specs.Arguments.{is_comma_fragment}
 use Rattle.dy_rules.specs.Productions.{list_of}
 use Rattle.dy_rules.specs.Cutting.{MethodFound, NamedFound, Ending, Found, Item, Piece, Pieces, is_semicolon, is_arrow, cut, ending, fragments_in, Front, headed}
@@ -33,8 +40,8 @@ abbrev pub results_in_front : List Item → ResultTree → ResultsFront
 results_in_front rest results = record { results = Some results; rest = rest }
 
 abbrev pub given_in : Bracket → SeenFragments → Found → List Item → Option ResultsFront
-given_in round no_fragment found rest = Some (results_in_front rest (several_results [] None))
-given_in round inner found rest = option_map (results_in_front rest) (option_map several_given found.given)
+given_in brackets.Round no_fragment found rest = Some (results_in_front rest (several_results [] None))
+given_in brackets.Round inner found rest = option_map (results_in_front rest) (option_map several_given found.given)
 given_in _ inner found rest = None
 
 abbrev pub variable_result : VariableFront → ResultsFront
@@ -63,7 +70,7 @@ is_identity_at (one token) = is_identity token
 is_identity_at (group opener inner closer) = false
 
 abbrev pub single_named : Role → Token → Option Single → Option RequiredTree
-single_named named token single = option_map (required_single token) single
+single_named roles.Named token single = option_map (required_single token) single
 single_named _ token single = None
 
 abbrev pub single_at : SeenFragment → Option Single → Option RequiredTree
@@ -83,7 +90,7 @@ abbrev pub initial_of : Tree → MaybeTree
 initial_of tree = some_tree tree
 
 abbrev pub initial_if : Bool → List Item → Option MaybeTree
-initial_if true rest = option_map initial_of (expression_items nothing rest)
+initial_if true rest = option_map initial_of (expression_items splittings.Nothing rest)
 initial_if false rest = None
 
 abbrev pub initial_items : List Item → Option MaybeTree
@@ -100,7 +107,7 @@ abbrev pub key_from : Option Token → List Item → Option Key
 key_from label items = option_and_then (key_with label) (variable_front items)
 
 abbrev pub key_token : Role → Token → Item → List Item → Option Key
-key_token symbol token item rest = key_from (Some token) rest
+key_token roles.Symbol token item rest = key_from (Some token) rest
 key_token _ token item rest = key_from None (item ∷ rest)
 
 abbrev pub key_at : SeenFragment → Item → List Item → Option Key
@@ -120,7 +127,7 @@ with_key (Some key) None = None
 with_key (Some key) (Some others) = Some (keys_of_found (key ∷ others.keys) others.takes_all)
 
 abbrev pub is_all_word : PartWord → Bool
-is_all_word all_keys_word = true
+is_all_word part_words.AllKeys = true
 is_all_word _ = false
 
 -- `#all-keys` alone
@@ -173,7 +180,7 @@ required_before required found = Some (list_of (required ∷ found.required) fou
 -- how a part begins
 abbrev pub part_kind : SeenFragment → PartWord
 part_kind (one token) = part_word token
-part_kind (group opener inner closer) = no_part_word
+part_kind (group opener inner closer) = part_words.Absent
 
 abbrev pub no_list : Listed
 no_list = list_of [] None None None
@@ -189,9 +196,9 @@ abbrev pub after_required : Option Listed → RequiredTree → Option Listed
 after_required found required = option_and_then (required_before required) found
 
 abbrev pub part_with : PartWord → Item → List Item → List Piece → Option Listed → Option Listed
-part_with next_word item rest others found = option_and_then (after_next found) (name_items (item ∷ rest))
-part_with rest_word item rest others found = option_and_then (after_rest found) (name_items (item ∷ rest))
-part_with key_word item rest others found = option_map listed_keys (keys_from rest others)
+part_with part_words.Next item rest others found = option_and_then (after_next found) (name_items (item ∷ rest))
+part_with part_words.Rest item rest others found = option_and_then (after_rest found) (name_items (item ∷ rest))
+part_with part_words.Key item rest others found = option_map listed_keys (keys_from rest others)
 part_with _ item rest others found = option_and_then (after_required found) (required_items (item ∷ rest))
 
 abbrev pub part_at : List Item → List Piece → Option Listed → Option Listed
@@ -224,7 +231,7 @@ abbrev pub method_of : Listed → Option ResultTree → List ItemTree → Method
 method_of found results trees = record { found = found; results = results; trees = trees }
 
 abbrev pub method_with : Listed → ResultsFront → Option MethodFound
-method_with found front = option_map (method_of found front.results) (body_items nothing (without_front front.rest))
+method_with found front = option_map (method_of found front.results) (body_items splittings.Nothing (without_front front.rest))
 
 abbrev pub method_listed : List Item → Listed → Option MethodFound
 method_listed rest found = option_and_then (method_with found) (results_front rest)
@@ -240,7 +247,7 @@ abbrev pub named_of : Token → MethodFound → NamedFound
 named_of token method = record { token = token; method = method }
 
 abbrev pub named_with : Role → Token → List Item → Option NamedFound
-named_with named token rest = option_map (named_of token) (method_items rest)
+named_with roles.Named token rest = option_map (named_of token) (method_items rest)
 named_with _ token rest = None
 
 abbrev pub named_at : SeenFragment → List Item → Option NamedFound

@@ -2,9 +2,16 @@
 use Rattle.std.specs.Prelude.{true, false, List, [], ◌∷◌, Option, Some, None, option_map, option_and_then}
 use Rattle.dy_tree.specs.declared.token.Token.{Token}
 use Rattle.dy_tree.specs.Fragments.{SeenFragment, one, group}
-use Rattle.dy_rules.specs.Operators.{Guard}
+use Rattle.dy_tree.specs.declared.brackets.Guard.{Guard}
+use Rattle.dy_tree.specs.declared.brackets.Keyword.{Keyword}
+use Rattle.dy_tree.specs.declared.brackets.Keyword.TheVariants as keywords
+use Rattle.dy_tree.specs.declared.brackets.Bracket.{Bracket}
+use Rattle.dy_tree.specs.declared.brackets.Bracket.TheVariants as brackets
+use Rattle.dy_tree.specs.declared.splitters.Splitting.TheVariants as splittings
+use Rattle.dy_tree.specs.declared.splitters.Splitter.{Splitter}
+use Rattle.dy_tree.specs.declared.splitters.Splitter.TheVariants as splitters
 use Rattle.dy_rules.specs.Trees.{Tree, begin_tree, if_tree, guarded, case_tree, select_tree, maybe_of, arms_of, ItemTree, body_of, Alternative, alternative, alternatives_of, Otherwise, no_otherwise, otherwise, method_tree, parameters_of}
-use Rattle.dy_rules.specs.Roles.{nothing, branches, Splitter, else_word, elseif_word, Keyword, begin_word, if_word, guard_word, case_word, select_word, Bracket, round, bracket_of, block_word, for_word, method_word, define_word}
+use Rattle.dy_rules.specs.Roles.{bracket_of}
 use Rattle.dy_rules.specs.Cutting.{Head, Item, Piece, Pieces, is_splitter, cut, Front, headed, word_of, MethodFound}
 use Rattle.dy_rules.specs.Bodies.{body_items}
 use Rattle.dy_rules.specs.Choices.{Choices, arms_items}
@@ -21,7 +28,7 @@ abbrev pub tested_by : List Item → Tree → Tested
 tested_by rest test = record { test = test; rest = rest }
 
 abbrev pub tested_in : Bracket → Option Tree → List Item → Option Tested
-tested_in round tree rest = option_map (tested_by rest) tree
+tested_in brackets.Round tree rest = option_map (tested_by rest) tree
 tested_in _ tree rest = None
 
 abbrev pub tested_at : SeenFragment → Option Tree → List Item → Option Tested
@@ -46,15 +53,15 @@ abbrev pub with_body : Tree → Option Others → List ItemTree → Option Other
 with_body test others trees = option_map (with_alternative test trees) others
 
 abbrev pub with_test : Option Others → Tested → Option Others
-with_test others head = option_and_then (with_body head.test others) (body_items branches head.rest)
+with_test others head = option_and_then (with_body head.test others) (body_items splittings.Branches head.rest)
 
 abbrev pub if_last : List Piece → Option Others → Option Others
 if_last [] found = found
 if_last (piece ∷ others) found = None
 
 abbrev pub other_at : Splitter → List Item → List Piece → Option Others → Option Others
-other_at else_word items behind rest = if_last behind (option_map by_body (body_items branches items))
-other_at elseif_word items behind rest = option_and_then (with_test rest) (tested items)
+other_at splitters.Else items behind rest = if_last behind (option_map by_body (body_items splittings.Branches items))
+other_at splitters.Elseif items behind rest = option_and_then (with_test rest) (tested items)
 other_at _ items behind rest = None
 
 -- the alternatives behind the first body of an `if`
@@ -69,7 +76,7 @@ abbrev pub guarded_of : Guard → Token → Tree → List ItemTree → Tree
 guarded_of guard word test trees = guarded guard word test (body_of trees)
 
 abbrev pub guarded_items : Guard → Token → Tested → Option Tree
-guarded_items guard word head = option_map (guarded_of guard word head.test) (body_items nothing head.rest)
+guarded_items guard word head = option_map (guarded_of guard word head.test) (body_items splittings.Nothing head.rest)
 
 abbrev pub if_of : Token → Tree → List ItemTree → Others → Tree
 if_of word test trees others = if_tree word test (body_of trees) (alternatives_of others.trees) others.last
@@ -78,10 +85,10 @@ abbrev pub if_body : Token → Tree → Option Others → List ItemTree → Opti
 if_body word test others trees = option_map (if_of word test trees) others
 
 abbrev pub if_pieces : Token → Tree → Pieces → Option Tree
-if_pieces word test pieces = option_and_then (if_body word test (others_of pieces.others)) (body_items branches pieces.first)
+if_pieces word test pieces = option_and_then (if_body word test (others_of pieces.others)) (body_items splittings.Branches pieces.first)
 
 abbrev pub if_items : Token → Tested → Option Tree
-if_items word head = if_pieces word head.test (cut (is_splitter branches) false head.rest)
+if_items word head = if_pieces word head.test (cut (is_splitter splittings.Branches) false head.rest)
 
 abbrev pub case_of : Token → Choices → Tree
 case_of word found = case_tree word (arms_of found.arms) found.last
@@ -100,12 +107,12 @@ method_statement word method = method_tree word (parameters_of method.found meth
 
 -- the statement between a word and its `end`
 abbrev pub statement_items : Keyword → Token → List Item → Option Tree
-statement_items begin_word word items = option_map (begin_of word) (body_items nothing items)
-statement_items (guard_word guard) word items = option_and_then (guarded_items guard word) (tested items)
-statement_items if_word word items = option_and_then (if_items word) (tested items)
-statement_items case_word word items = option_map (case_of word) (arms_items true items)
-statement_items select_word word items = option_and_then (select_items word) (headed items)
-statement_items block_word word items = option_and_then (block_items word) (headed items)
-statement_items for_word word items = option_and_then (for_statement word) (headed items)
-statement_items define_word word items = None
-statement_items method_word word items = option_map (method_statement word) (method_items items)
+statement_items keywords.Begin word items = option_map (begin_of word) (body_items splittings.Nothing items)
+statement_items (keywords.Guard guard) word items = option_and_then (guarded_items guard word) (tested items)
+statement_items keywords.If word items = option_and_then (if_items word) (tested items)
+statement_items keywords.Case word items = option_map (case_of word) (arms_items true items)
+statement_items keywords.Select word items = option_and_then (select_items word) (headed items)
+statement_items keywords.Block word items = option_and_then (block_items word) (headed items)
+statement_items keywords.For word items = option_and_then (for_statement word) (headed items)
+statement_items keywords.Define word items = None
+statement_items keywords.Method word items = option_map (method_statement word) (method_items items)

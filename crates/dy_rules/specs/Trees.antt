@@ -2,7 +2,8 @@
 use Rattle.std.specs.Prelude.{Bool, List, [], ◌∷◌, Option, Some, None}
 use Rattle.dy_tree.specs.declared.token.Token.{Token}
 use Rattle.dy_tree.specs.declared.types.LiteralForm.{LiteralForm}
-use Rattle.dy_rules.specs.Operators.{Precedence, Guard}
+use Rattle.dy_tree.specs.declared.roles.Precedence.{Precedence}
+use Rattle.dy_tree.specs.declared.brackets.Guard.{Guard}
 use Rattle.dy_rules.specs.ConstantTrees.{Constants, Tail}
 use Rattle.dy_rules.specs.Types.{TypeTree, VariableTree, TargetTree, RequiredTree, ResultTree}
 

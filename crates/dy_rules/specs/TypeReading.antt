@@ -3,22 +3,30 @@ use Rattle.std.specs.Prelude.{ℕ, Bool, true, false, List, [], ◌∷◌, codes
 use Rattle.dy_tree.specs.declared.token.Token.{Token}
 use Rattle.dy_tree.specs.declared.types.IntegerForm.{IntegerForm}
 use Rattle.dy_tree.specs.Fragments.{SeenFragment, one, group, SeenFragments, no_fragment, row}
-use Rattle.dy_rules.specs.Roles.{Role, integer, named, minus, role_of, negative, Bracket, round, sharp_round, bracket_of, is_same}
+use Rattle.dy_tree.specs.declared.roles.Role.{Role}
+use Rattle.dy_tree.specs.declared.roles.Role.TheVariants as roles
+use Rattle.dy_tree.specs.declared.brackets.Bracket.{Bracket}
+use Rattle.dy_tree.specs.declared.brackets.Bracket.TheVariants as brackets
+use Rattle.dy_tree.specs.declared.type_words.TypeWord.{TypeWord}
+use Rattle.dy_tree.specs.declared.type_words.TypeWord.TheVariants as type_words
+use Rattle.dy_tree.specs.Spelling.{is_spelled}
+use Rattle.dy_rules.specs.Roles.{role_of, negative, bracket_of}
 use Rattle.dy_rules.specs.Constants.{token_literal}
 use Rattle.dy_rules.specs.Arguments.{is_comma_fragment}
-use Rattle.dy_rules.specs.Types.{is_mark, Single, literal_single, empty_single, name_single, Bound, is_bound, TypeTree, named_type, singleton_type, union_type, limited_type, types_of, TypeWord, singleton_word, union_word, limited_word, no_type_word, type_word, VariableTree, TargetTree, one_target, several, is_colons_role}
-use Rattle.dy_rules.specs.Cutting.{Limits, Ending, Found, Item, Pieces, cut, each, each_other, fragments_in, ending}
+use Rattle.dy_rules.specs.Tests.{if_passes}
+use Rattle.dy_rules.specs.Types.{is_mark, Single, literal_single, empty_single, name_single, Bound, is_bound, each_once, TypeTree, named_type, singleton_type, union_type, limited_type, types_of, type_word, VariableTree, TargetTree, one_target, several, is_colons_role}
+use Rattle.dy_rules.specs.Cutting.{Limits, Ending, Found, Item, Piece, Pieces, cut, each, each_other, fragments_in, ending}
 
 abbrev pub single_token : Role → Token → Option Single
-single_token named token = Some (name_single token)
+single_token roles.Named token = Some (name_single token)
 single_token role token = option_map literal_single (token_literal role token)
 
 abbrev pub negative_single : Role → Role → Token → Token → Option Single
-negative_single minus integer sign digits = Some (literal_single (negative sign digits))
+negative_single roles.Minus roles.Integer sign digits = Some (literal_single (negative sign digits))
 negative_single _ _ sign digits = None
 
 abbrev pub single_group : Bracket → SeenFragments → Token → Option Single
-single_group sharp_round no_fragment opener = Some (empty_single opener)
+single_group brackets.SharpRound no_fragment opener = Some (empty_single opener)
 single_group _ _ opener = None
 
 abbrev pub single_in : List SeenFragment → Option Single
@@ -28,11 +36,11 @@ single_in (group opener inner closer ∷ []) = single_group (bracket_of opener c
 single_in _ = None
 
 abbrev pub plain_integer : Role → Token → Option IntegerForm
-plain_integer integer digits = Some (record { minus = None; digits = digits })
+plain_integer roles.Integer digits = Some (record { minus = None; digits = digits })
 plain_integer _ digits = None
 
 abbrev pub negative_integer_of : Role → Role → Token → Token → Option IntegerForm
-negative_integer_of minus integer sign digits = Some (record { minus = Some sign; digits = digits })
+negative_integer_of roles.Minus roles.Integer sign digits = Some (record { minus = Some sign; digits = digits })
 negative_integer_of _ _ sign digits = None
 
 abbrev pub integer_in : List SeenFragment → Option IntegerForm
@@ -55,7 +63,7 @@ abbrev pub bound_items : List Item → Option Bound
 bound_items items = bound_in (fragments_in items)
 
 abbrev pub is_integer_class : Role → Token → Bool
-is_integer_class named class = is_same (codes "<integer>") class.text
+is_integer_class roles.Named class = is_spelled (codes "<integer>") class
 is_integer_class _ class = false
 
 abbrev pub limits_of : Token → List Bound → Limits
@@ -69,8 +77,11 @@ abbrev pub limits_in : List SeenFragment → Option (List Bound) → Option Limi
 limits_in (one class ∷ []) bounds = limits_if (is_integer_class (role_of class) class) class bounds
 limits_in _ bounds = None
 
+abbrev pub bounds_in : List Piece → Option (List Bound)
+bounds_in others = option_and_then (if_passes each_once) (each_other bound_items others)
+
 abbrev pub limits_pieces : Pieces → Option Limits
-limits_pieces pieces = limits_in (fragments_in pieces.first) (each_other bound_items pieces.others)
+limits_pieces pieces = limits_in (fragments_in pieces.first) (bounds_in pieces.others)
 
 abbrev pub limits_items : List Item → Option Limits
 limits_items items = limits_pieces (cut is_comma_fragment false items)
@@ -94,17 +105,17 @@ limited_of word limits = limited_type word limits.class limits.bounds
 
 -- brackets of one of the three forms
 abbrev pub form_type : TypeWord → Token → SeenFragments → Found → Option TypeTree
-form_type singleton_word word inner found = option_map (singleton_type word) (single_in (row inner))
-form_type union_word word inner found = option_map (union_of word) found.types
-form_type limited_word word inner found = option_map (limited_of word) found.limits
-form_type no_type_word word inner found = None
+form_type type_words.Singleton word inner found = option_map (singleton_type word) (single_in (row inner))
+form_type type_words.Union word inner found = option_map (union_of word) found.types
+form_type type_words.Limited word inner found = option_map (limited_of word) found.limits
+form_type type_words.Absent word inner found = None
 
 abbrev pub word_front : TypeWord → Token → SeenFragments → Item → List Item → Option TypeFront
-word_front no_type_word word inner item rest = name_front word (item ∷ rest)
+word_front type_words.Absent word inner item rest = name_front word (item ∷ rest)
 word_front form word inner item rest = option_map (in_front rest) (form_type form word inner item.found)
 
 abbrev pub group_front : Bracket → Token → SeenFragments → Item → List Item → Option TypeFront
-group_front round word inner item rest = word_front (type_word word) word inner item rest
+group_front brackets.Round word inner item rest = word_front (type_word word) word inner item rest
 group_front _ word inner item rest = name_front word (item ∷ rest)
 
 abbrev pub front_behind : Token → SeenFragment → Item → List Item → Option TypeFront
@@ -116,7 +127,7 @@ type_from word [] = name_front word []
 type_from word (item ∷ rest) = front_behind word item.fragment item rest
 
 abbrev pub type_named : Role → Token → List Item → Option TypeFront
-type_named named word rest = type_from word rest
+type_named roles.Named word rest = type_from word rest
 type_named _ word rest = None
 
 abbrev pub type_at : SeenFragment → List Item → Option TypeFront
@@ -165,7 +176,7 @@ variable_from token [] = Some (untyped_front token [])
 variable_from token (item ∷ rest) = variable_if (is_colons item.fragment) token item rest
 
 abbrev pub variable_named : Role → Token → List Item → Option VariableFront
-variable_named named token rest = variable_from token rest
+variable_named roles.Named token rest = variable_from token rest
 variable_named _ token rest = None
 
 abbrev pub variable_at : SeenFragment → List Item → Option VariableFront
@@ -192,7 +203,7 @@ marked text [] = false
 marked text (item ∷ rest) = is_marked text item.fragment
 
 abbrev pub named_token : Role → Token → Option Token
-named_token named token = Some token
+named_token roles.Named token = Some token
 named_token _ token = None
 
 -- the name behind a mark
@@ -213,8 +224,8 @@ abbrev pub several_of : Ending VariableTree Token → TargetTree
 several_of bound = several bound.parts bound.last
 
 abbrev pub target_in : Bracket → SeenFragments → Option (Ending VariableTree Token) → Option TargetTree
-target_in round no_fragment bound = Some (several [] None)
-target_in round inner bound = option_map several_of bound
+target_in brackets.Round no_fragment bound = Some (several [] None)
+target_in brackets.Round inner bound = option_map several_of bound
 target_in _ inner bound = None
 
 abbrev pub target_group : SeenFragment → Found → Option TargetTree

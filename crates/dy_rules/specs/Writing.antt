@@ -6,16 +6,19 @@ use Rattle.dy_tree.specs.declared.token.Token.{Token}
 use Rattle.dy_tree.specs.declared.types.LiteralForm.{LiteralForm}
 use Rattle.dy_tree.specs.declared.types.LiteralForm.TheVariants as literals
 use Rattle.dy_tree.specs.Fragments.{SeenFragment, one}
+use Rattle.dy_tree.specs.declared.roles.Role.{Role}
+use Rattle.dy_tree.specs.declared.roles.Role.TheVariants as roles
+use Rattle.dy_tree.specs.declared.splitters.Splitting.TheVariants as splittings
 use Rattle.dy_rules.specs.Marks.{in_round, written_literal, assigns_mark, dot_mark, comma_mark, list_group, square_group, semicolon_mark, word_mark, statement_group, equals_mark, handler_mark, arrow_mark, colons_mark, key_mark, all_keys_mark}
 use Rattle.dy_rules.specs.TypeWriting.{written_type, written_target, written_variable, written_results, required_joined, next_joined, rest_joined}
 use Rattle.dy_rules.specs.ConstantTrees.{Constant, literal_item, list_item, vector_item, Constants, no_constant, constant_and, Tail, no_tail, tail}
 use Rattle.dy_rules.specs.Trees.{Tree, assignment, operation, unary, call, element, member, literal, name, Arguments, no_argument, argument_and, Argument, keyword, value, list, vector, begin_tree, if_tree, guarded, Body, no_item, item_and, ItemTree, let_item, handler_item, expression_item, Alternatives, no_alternative, alternative_and, Alternative, alternative, Otherwise, no_otherwise, otherwise, case_tree, select_tree, MaybeTree, no_tree, some_tree, Arms, no_arm, arm_and, Arm, arm, Tests, no_test, test_and, block_tree, for_tree, BlockClauses, no_clause, clause_and, BlockClause, afterwards_clause, cleanup_clause, exception_clause, ForClauses, no_for_clause, for_clause_and, ForClause, then_clause, in_clause, from_clause, MaybeLimit, no_limit, a_limit, MaybeStop, no_stop, a_stop, method_tree, Parameters, parameters, MaybeKeys, no_keys, some_keys, Keys, no_key, key_and, Key, a_key, LocalMethods, no_method, method_and, LocalMethod, local_method, local_item}
-use Rattle.dy_rules.specs.Roles.{Role, minus, role_of, branches, endings, last_part, steps, tests, splits}
+use Rattle.dy_rules.specs.Roles.{role_of, splits}
 use Rattle.dy_rules.specs.Types.{TypeTree}
 
 -- the name splits some statement
 abbrev pub splits_some : Token → Bool
-splits_some token = splits branches token || splits endings token || splits last_part token || splits steps token || splits tests token
+splits_some token = splits splittings.Branches token || splits splittings.Endings token || splits splittings.LastPart token || splits splittings.Steps token || splits splittings.Tests token
 
 abbrev pub bracketed : Bool → List SeenFragment → List SeenFragment
 bracketed true fragments = in_round fragments ∷ []
@@ -58,7 +61,7 @@ is_integer_literal (literals.Int form) = true
 is_integer_literal _ = false
 
 abbrev pub is_minus_role : Role → Bool
-is_minus_role minus = true
+is_minus_role roles.Minus = true
 is_minus_role _ = false
 
 -- a tree that is written with brackets as the operand of a minus

@@ -2,9 +2,10 @@
 
 ghost use Rattle.std.specs.Prelude.{◌≡◌, ◌<◌, ◌≤◌, Bool, true, List, Option, Some};
 ghost use Rattle.dy_tree.specs.Fragments.{SeenFragment, SeenFragments, row};
+ghost use Rattle.dy_tree.specs.declared.splitters.Splitting.{Splitting};
+ghost use Rattle.dy_tree.specs.declared.splitters.Splitting.TheVariants as splittings;
 ghost use Rattle.dy_rules.specs.ConstantTrees.{Constant};
 ghost use Rattle.dy_rules.specs.Trees.{Tree, Argument, ItemTree, body_of};
-ghost use Rattle.dy_rules.specs.Roles.{Splitting, nothing};
 ghost use Rattle.dy_rules.specs.Productions.{Derives, expression, arguments, a_body};
 ghost use Rattle.dy_rules.specs.Fragments.{expression_of, passed_of, body_of_fragments, items_of};
 ghost use Rattle.dy_rules.specs.Arguments.{is_single};
@@ -30,15 +31,15 @@ pub fn expression_laws()
     // No fragments stand for two expressions.
     ensures one { (words : Splitting) (fragments : List SeenFragment) (tree other : Tree) → Derives words (expression tree) fragments → Derives words (expression other) fragments → tree ≡ other }
     // The same of the arguments of a call.
-    ensures reads_arguments { (fragments : List SeenFragment) (passed : List Argument) → passed_of fragments ≡ Some passed → Derives nothing (arguments passed) fragments }
-    ensures all_arguments { (fragments : List SeenFragment) (passed : List Argument) → Derives nothing (arguments passed) fragments → passed_of fragments ≡ Some passed }
-    ensures one_arguments { (fragments : List SeenFragment) (passed others : List Argument) → Derives nothing (arguments passed) fragments → Derives nothing (arguments others) fragments → passed ≡ others }
+    ensures reads_arguments { (fragments : List SeenFragment) (passed : List Argument) → passed_of fragments ≡ Some passed → Derives splittings.Nothing (arguments passed) fragments }
+    ensures all_arguments { (fragments : List SeenFragment) (passed : List Argument) → Derives splittings.Nothing (arguments passed) fragments → passed_of fragments ≡ Some passed }
+    ensures one_arguments { (fragments : List SeenFragment) (passed others : List Argument) → Derives splittings.Nothing (arguments passed) fragments → Derives splittings.Nothing (arguments others) fragments → passed ≡ others }
     // What a tree is written as stands for the tree, whatever words split there.
     ensures writes { (words others : Splitting) (fragments : List SeenFragment) (tree : Tree) → Derives words (expression tree) fragments → Derives others (expression tree) (written tree) }
     // What is written is read again.
     ensures again { (words others : Splitting) (fragments : List SeenFragment) (tree : Tree) → expression_of words fragments ≡ Some tree → expression_of others (written tree) ≡ Some tree }
     // Where the arguments of a call are one expression, a test of their fragments says so.
-    ensures single { (inner : SeenFragments) (tree : Tree) → Derives nothing (expression tree) (row inner) → is_single (row inner) ≡ true }
+    ensures single { (inner : SeenFragments) (tree : Tree) → Derives splittings.Nothing (expression tree) (row inner) → is_single (row inner) ≡ true }
 {}
 
 /// What holds of the bodies that fragments stand for.

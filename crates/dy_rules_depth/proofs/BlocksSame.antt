@@ -1,16 +1,21 @@
 -- The clauses of a block are read the same to the limit, whatever stands in the place of trees that are too deep.
 use Rattle.std.proofs.Common.{◌≡◌, Bool, true, false, List, [], ◌∷◌, map, Option, Some, None, option_map, option_and_then, refl, ap, ◌∙◌}
-use Rattle.std.specs.List.{list_any}
 use Rattle.dy_tree.specs.declared.token.Token.{Token}
 use Rattle.dy_tree.specs.Fragments.{SeenFragment, one, group}
+use Rattle.dy_tree.specs.declared.roles.Role.{Role}
+use Rattle.dy_tree.specs.declared.roles.Role.TheVariants as roles
+use Rattle.dy_tree.specs.declared.splitters.Splitting.TheVariants as splittings
+use Rattle.dy_tree.specs.declared.splitters.Splitter.{Splitter}
+use Rattle.dy_tree.specs.declared.splitters.Splitter.TheVariants as splitters
 use Rattle.dy_rules.specs.Types.{TypeTree}
 use Rattle.dy_rules.specs.Trees.{ItemTree, body_of, BlockClause, afterwards_clause, cleanup_clause, exception_clause, block_clauses_of}
-use Rattle.dy_rules.specs.Roles.{Role, named, role_of, endings, Splitter, afterwards_word, cleanup_word, exception_word}
+use Rattle.dy_rules.specs.Roles.{role_of}
 use Rattle.dy_rules.specs.Productions.{is_afterwards, is_cleanup, suit_block}
 use Rattle.dy_rules.specs.Cutting.{Caught, Item, Piece, Pieces, is_splitter, cut, Front, headed, word_of}
 use Rattle.dy_rules.specs.TypeReading.{type_items, is_colons}
 use Rattle.dy_rules.specs.Bodies.{body_items}
 use Rattle.dy_rules.specs.Blocks.{caught_of, caught_named, caught_with, caught_if, caught_items, exit_inside, afterwards_of, cleanup_of, exception_of, exception_with, exception_items, block_clause_at, block_clauses_in, block_if, block_suits, block_body, block_pieces, block_items}
+use Rattle.dy_rules.proofs.Lists.{any_as}
 use Rattle.dy_rules_depth.specs.Changes.{changed_item, changed_clause}
 use Rattle.dy_rules_depth.specs.ReaderChanges.{changed_caught, changed_item_of, changed_items, changed_piece, changed_pieces, changed_front}
 use Rattle.dy_rules_depth.specs.Capping.{capped, capped_type, capping}
@@ -41,7 +46,7 @@ pub caught_of_same : (variable : Option Token) (condition other : TypeTree) → 
 caught_of_same variable condition other e = ap (caught_of variable) e
 
 caught_named_same : (role : Role) (token : Token) (condition other : Option TypeTree) → SameType condition other → SameCaught (caught_named role token condition) (caught_named role token other)
-caught_named_same named token condition other e = map_same capped_type (changed_caught capping) (caught_of (Some token)) (caught_of (Some token)) condition other (caught_of_same (Some token)) e
+caught_named_same roles.Named token condition other e = map_same capped_type (changed_caught capping) (caught_of (Some token)) (caught_of (Some token)) condition other (caught_of_same (Some token)) e
 caught_named_same role token condition other e = refl
 
 caught_with_same : (fragment : SeenFragment) (condition other : Option TypeTree) → SameType condition other → SameCaught (caught_with fragment condition) (caught_with fragment other)
@@ -73,7 +78,7 @@ exception_same caught other e trees others f = cc (ap (λ (c : Caught). c.variab
 
 exception_with_same : (rest : List Item) (caught other : Caught) → changed_caught capping caught ≡ changed_caught capping other → SameClause (exception_with (changed_items capping rest) caught) (exception_with rest other)
 exception_with_same rest caught other e =
-    map_same (map (changed_item capping)) (changed_clause capping) (exception_of caught) (exception_of other) (body_items endings (changed_items capping rest)) (body_items endings rest) (exception_same caught other e) (body_same endings rest)
+    map_same (map (changed_item capping)) (changed_clause capping) (exception_of caught) (exception_of other) (body_items splittings.Endings (changed_items capping rest)) (body_items splittings.Endings rest) (exception_same caught other e) (body_same splittings.Endings rest)
 
 exception_items_same : (front : Front) → SameClause (exception_items (changed_front capping front)) (exception_items front)
 exception_items_same front =
@@ -81,9 +86,9 @@ exception_items_same front =
     (exception_with_same front.rest) (option_twice (changed_caught capping) caught_twice front.first.found.caught)
 
 clause_at_same : (word : Splitter) → Reads (changed_clause capping) (block_clause_at word)
-clause_at_same afterwards_word items = map_same (map (changed_item capping)) (changed_clause capping) afterwards_of afterwards_of (body_items endings (changed_items capping items)) (body_items endings items) afterwards_same (body_same endings items)
-clause_at_same cleanup_word items = map_same (map (changed_item capping)) (changed_clause capping) cleanup_of cleanup_of (body_items endings (changed_items capping items)) (body_items endings items) cleanup_same (body_same endings items)
-clause_at_same exception_word items =
+clause_at_same splitters.Afterwards items = map_same (map (changed_item capping)) (changed_clause capping) afterwards_of afterwards_of (body_items splittings.Endings (changed_items capping items)) (body_items splittings.Endings items) afterwards_same (body_same splittings.Endings items)
+clause_at_same splitters.Cleanup items = map_same (map (changed_item capping)) (changed_clause capping) cleanup_of cleanup_of (body_items splittings.Endings (changed_items capping items)) (body_items splittings.Endings items) cleanup_same (body_same splittings.Endings items)
+clause_at_same splitters.Exception items =
     ap (λ (front : Option Front). option_map (changed_clause capping) (option_and_then exception_items front)) (headed_changed capping items) ∙ then_on (changed_front capping) (changed_clause capping) exception_items exception_items (headed items) exception_items_same
 clause_at_same word items = refl
 
@@ -96,11 +101,6 @@ clauses_same (piece ∷ others) =
 -- blocks
 
 -- what suits depends on no tree
-module _ (is : BlockClause → Bool) (kept : (clause : BlockClause) → is (changed_clause capping clause) ≡ is clause) where
-  any_kept : (clauses : List BlockClause) → list_any is (map (changed_clause capping) clauses) ≡ list_any is clauses
-  any_kept [] = refl
-  any_kept (first ∷ rest) = rw (kept first, any_kept rest) refl
-
 afterwards_kept : (clause : BlockClause) → is_afterwards (changed_clause capping clause) ≡ is_afterwards clause
 afterwards_kept (afterwards_clause body) = refl
 afterwards_kept (cleanup_clause body) = refl
@@ -113,8 +113,8 @@ cleanup_kept (exception_clause variable condition body) = refl
 
 suit_on : (clauses : List BlockClause) → suit_block (map (changed_clause capping) clauses) ≡ suit_block clauses
 suit_on [] = refl
-suit_on (afterwards_clause body ∷ rest) = rw (any_kept is_afterwards afterwards_kept rest, suit_on rest) refl
-suit_on (cleanup_clause body ∷ rest) = rw (any_kept is_cleanup cleanup_kept rest, suit_on rest) refl
+suit_on (afterwards_clause body ∷ rest) = rw (any_as is_afterwards (changed_clause capping) is_afterwards afterwards_kept rest, suit_on rest) refl
+suit_on (cleanup_clause body ∷ rest) = rw (any_as is_cleanup (changed_clause capping) is_cleanup cleanup_kept rest, suit_on rest) refl
 suit_on (exception_clause variable condition body ∷ rest) = suit_on rest
 
 pub suit_kept : (clauses others : List BlockClause) → SameClauses clauses others → suit_block clauses ≡ suit_block others
@@ -136,14 +136,14 @@ block_body_same word exit clauses more f trees others e = then_same (map (change
 block_pieces_same : (word : Token) (pieces : Pieces) (exit : Option Token) → SameTree (block_pieces word (changed_pieces capping pieces) exit) (block_pieces word pieces exit)
 block_pieces_same word pieces exit =
     then_same (map (changed_item capping)) capped (block_body word exit (block_clauses_in (map (changed_piece capping) pieces.others))) (block_body word exit (block_clauses_in pieces.others))
-    (body_items endings (changed_items capping pieces.first)) (body_items endings pieces.first)
-    (block_body_same word exit (block_clauses_in (map (changed_piece capping) pieces.others)) (block_clauses_in pieces.others) (clauses_same pieces.others)) (body_same endings pieces.first)
+    (body_items splittings.Endings (changed_items capping pieces.first)) (body_items splittings.Endings pieces.first)
+    (block_body_same word exit (block_clauses_in (map (changed_piece capping) pieces.others)) (block_clauses_in pieces.others) (clauses_same pieces.others)) (body_same splittings.Endings pieces.first)
 
 exit_same : (word : Token) (rest : List Item) (exit : Option (Option Token))
-    → SameTree (option_and_then (block_pieces word (cut (is_splitter endings) false (changed_items capping rest))) exit) (option_and_then (block_pieces word (cut (is_splitter endings) false rest)) exit)
+    → SameTree (option_and_then (block_pieces word (cut (is_splitter splittings.Endings) false (changed_items capping rest))) exit) (option_and_then (block_pieces word (cut (is_splitter splittings.Endings) false rest)) exit)
 exit_same word rest None = refl
 exit_same word rest (Some exit) =
-    ap (λ (pieces : Pieces). option_map capped (block_pieces word pieces exit)) (cut_changed capping (is_splitter endings) false rest) ∙ block_pieces_same word (cut (is_splitter endings) false rest) exit
+    ap (λ (pieces : Pieces). option_map capped (block_pieces word pieces exit)) (cut_changed capping (is_splitter splittings.Endings) false rest) ∙ block_pieces_same word (cut (is_splitter splittings.Endings) false rest) exit
 
 pub block_same : (word : Token) (front : Front) → SameTree (block_items word (changed_front capping front)) (block_items word front)
 block_same word front = exit_same word front.rest (exit_inside front.first.fragment)

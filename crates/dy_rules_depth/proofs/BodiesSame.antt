@@ -2,10 +2,14 @@
 use Rattle.std.proofs.Common.{◌≡◌, Bool, true, false, List, [], ◌∷◌, map, Option, option_map, option_and_then, refl, ap, ◌∙◌}
 use Rattle.dy_tree.specs.declared.token.Token.{Token}
 use Rattle.dy_tree.specs.Fragments.{SeenFragment, one, group}
+use Rattle.dy_tree.specs.declared.brackets.Keyword.TheVariants as keywords
+use Rattle.dy_tree.specs.declared.brackets.Bracket.{Bracket}
+use Rattle.dy_tree.specs.declared.brackets.Bracket.TheVariants as brackets
+use Rattle.dy_tree.specs.declared.splitters.Splitting.{Splitting}
 use Rattle.dy_rules.specs.Trees.{ItemTree, expression_item, local_item, LocalMethod}
 use Rattle.dy_rules.specs.Types.{TypeTree, TargetTree, binds_plainly}
 use Rattle.dy_rules.specs.TypeReading.{type_items, target_items}
-use Rattle.dy_rules.specs.Roles.{Splitting, Bracket, bracket_of, statement, method_word}
+use Rattle.dy_rules.specs.Roles.{bracket_of}
 use Rattle.dy_rules.specs.Cutting.{Item, is_semicolon, cut, each, without_end, Sides, first_cut, fragments_in, NamedFound}
 use Rattle.dy_rules.specs.Reading.{expression_items}
 use Rattle.dy_rules.specs.Arguments.{is_comma_fragment}
@@ -66,7 +70,7 @@ abbrev SameMethod : Option LocalMethod → Option LocalMethod → Type 0
 SameMethod method other = option_map (changed_method capping) method ≡ option_map (changed_method capping) other
 
 pub method_in_same : (bracket : Bracket) (word : Token) (named other : Option NamedFound) → SameNamed named other → SameMethod (method_in bracket word named) (method_in bracket word other)
-method_in_same (statement method_word) word named other e = map_same (changed_named capping) (changed_method capping) (method_tree_of word) (method_tree_of word) named other (method_tree_same word) e
+method_in_same (brackets.Statement keywords.Method) word named other e = map_same (changed_named capping) (changed_method capping) (method_tree_of word) (method_tree_of word) named other (method_tree_same word) e
 method_in_same bracket word named other e = refl
 
 pub method_at_same : (fragment : SeenFragment) (named other : Option NamedFound) → SameNamed named other → SameMethod (method_at fragment named) (method_at fragment other)

@@ -11,6 +11,9 @@ pub record Caps (A : Type 0) (before after : A) (depth_before depth_after : ℕ)
 pub caps_same : (A : Type 0) (a : A) → Caps A a a 0 0
 caps_same A a = record { kept = λ le. refl; deep = λ lt. lt; within = omega arith }
 
+pub caps_leaf : (A : Type 0) (a : A) → Caps A a a 1 1
+caps_leaf A a = record { kept = λ le. refl; deep = λ lt. lt; within = omega arith }
+
 pub caps_one : {A B : Type 0} (make : A → B) {a b : A} {m n : ℕ} → Caps A a b m n → Caps B (make a) (make b) m n
 caps_one make h = record { kept = λ le. ap make (h.kept le); deep = h.deep; within = h.within }
 

@@ -1,7 +1,8 @@
 -- The arms of a case or a select and its head are read the same to the limit, whatever stands in the place of trees that are too deep.
 use Rattle.std.proofs.Common.{◌≡◌, Bool, true, false, List, [], ◌∷◌, map, Option, Some, option_map, refl, sym, ap, ◌∙◌}
+use Rattle.dy_tree.specs.declared.splitters.Splitting.{Splitting}
+use Rattle.dy_tree.specs.declared.splitters.Splitting.TheVariants as splittings
 use Rattle.dy_rules.specs.Trees.{Tree, ItemTree, Otherwise, no_otherwise, otherwise, Arm}
-use Rattle.dy_rules.specs.Roles.{Splitting, nothing, tests}
 use Rattle.dy_rules.specs.Arguments.{is_comma_fragment}
 use Rattle.dy_rules.specs.Productions.{suits}
 use Rattle.dy_rules.specs.Cutting.{Head, Item, Piece, Pieces, is_semicolon, is_arrow, is_splitter, cut, without_end}
@@ -66,7 +67,7 @@ body_with_same words (item ∷ rest) lead other e =
     map_same (changed_item capping) (map (changed_item capping)) (lead_before lead) (lead_before other) (item_items words (changed_items capping (item ∷ rest))) (item_items words (item ∷ rest)) (λ tree more f. cc) (item_items_same words (item ∷ rest))
 
 pub tests_same : Reads (map capped) tests_items
-tests_same items = each_cut_same capped (expression_items nothing) (expression_same nothing) is_comma_fragment false items
+tests_same items = each_cut_same capped (expression_items splittings.Nothing) (expression_same splittings.Nothing) is_comma_fragment false items
 
 -- what suits depends on no tree
 suits_on : (single : Bool) (trees : List Tree) → suits single (map capped trees) ≡ suits single trees
@@ -144,9 +145,9 @@ finished_choices_same found more e = finished_lead_same found.lead more.lead fou
 some_arms_same : (single : Bool) → Reads (changed_choices capping) (some_arms_items single)
 some_arms_same single [] = refl
 some_arms_same single (item ∷ rest) =
-    then_same (changed_choices capping) (changed_choices capping) finished_choices finished_choices (choices_pieces nothing single (cut is_semicolon false (changed_items capping (item ∷ rest)))) (choices_pieces nothing single (cut is_semicolon false (item ∷ rest)))
+    then_same (changed_choices capping) (changed_choices capping) finished_choices finished_choices (choices_pieces splittings.Nothing single (cut is_semicolon false (changed_items capping (item ∷ rest)))) (choices_pieces splittings.Nothing single (cut is_semicolon false (item ∷ rest)))
     finished_choices_same
-    (ap (λ (pieces : Pieces). option_map (changed_choices capping) (choices_pieces nothing single pieces)) (cut_changed capping is_semicolon false (item ∷ rest)) ∙ choices_pieces_same nothing single (cut is_semicolon false (item ∷ rest)))
+    (ap (λ (pieces : Pieces). option_map (changed_choices capping) (choices_pieces splittings.Nothing single pieces)) (cut_changed capping is_semicolon false (item ∷ rest)) ∙ choices_pieces_same splittings.Nothing single (cut is_semicolon false (item ∷ rest)))
 
 pub arms_same : (single : Bool) → Reads (changed_choices capping) (arms_items single)
 arms_same single [] = refl
@@ -159,15 +160,15 @@ SameHead head other = option_map (changed_head capping) head ≡ option_map (cha
 
 head_with_same : (items : List Item) (selected other : Tree) → capped selected ≡ capped other → SameHead (head_with (changed_items capping items) selected) (head_with items other)
 head_with_same items selected other e =
-    map_same capped (changed_head capping) (head_by selected) (head_by other) (expression_items tests (changed_items capping items)) (expression_items tests items) (λ test more f. cc) (expression_same tests items)
+    map_same capped (changed_head capping) (head_by selected) (head_by other) (expression_items splittings.Tests (changed_items capping items)) (expression_items splittings.Tests items) (λ test more f. cc) (expression_same splittings.Tests items)
 
 head_behind_same : (first : List Item) (others : List Piece) → SameHead (head_behind (changed_items capping first) (map (changed_piece capping) others)) (head_behind first others)
 head_behind_same first [] =
-    map_same capped (changed_head capping) head_alone head_alone (expression_items tests (changed_items capping first)) (expression_items tests first) (λ tree other e. cc) (expression_same tests first)
+    map_same capped (changed_head capping) head_alone head_alone (expression_items splittings.Tests (changed_items capping first)) (expression_items splittings.Tests first) (λ tree other e. cc) (expression_same splittings.Tests first)
 head_behind_same first (piece ∷ []) =
-    then_same capped (changed_head capping) (head_with (changed_items capping piece.items)) (head_with piece.items) (expression_items tests (changed_items capping first)) (expression_items tests first) (head_with_same piece.items) (expression_same tests first)
+    then_same capped (changed_head capping) (head_with (changed_items capping piece.items)) (head_with piece.items) (expression_items splittings.Tests (changed_items capping first)) (expression_items splittings.Tests first) (head_with_same piece.items) (expression_same splittings.Tests first)
 head_behind_same first (piece ∷ second ∷ others) = refl
 
 pub head_same : Reads (changed_head capping) head_items
 head_same items =
-    ap (λ (pieces : Pieces). option_map (changed_head capping) (head_pieces pieces)) (cut_changed capping (is_splitter tests) false items) ∙ head_behind_same (cut (is_splitter tests) false items).first (cut (is_splitter tests) false items).others
+    ap (λ (pieces : Pieces). option_map (changed_head capping) (head_pieces pieces)) (cut_changed capping (is_splitter splittings.Tests) false items) ∙ head_behind_same (cut (is_splitter splittings.Tests) false items).first (cut (is_splitter splittings.Tests) false items).others

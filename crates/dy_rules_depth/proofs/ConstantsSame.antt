@@ -3,8 +3,12 @@ use Rattle.std.proofs.Common.{◌≡◌, List, [], ◌∷◌, ◌++◌, map, Opt
 use Rattle.std.proofs.lemmas.List.{map-append}
 use Rattle.dy_tree.specs.declared.token.Token.{Token}
 use Rattle.dy_tree.specs.Fragments.{SeenFragments, no_fragment, fragment_and}
+use Rattle.dy_tree.specs.declared.roles.Role.{Role}
+use Rattle.dy_tree.specs.declared.roles.Role.TheVariants as roles
+use Rattle.dy_tree.specs.declared.brackets.Bracket.{Bracket}
+use Rattle.dy_tree.specs.declared.brackets.Bracket.TheVariants as brackets
 use Rattle.dy_rules.specs.ConstantTrees.{Constant, constants_of, tail_of}
-use Rattle.dy_rules.specs.Roles.{Role, comma, dot, role_of, Bracket, sharp_round, sharp_square}
+use Rattle.dy_rules.specs.Roles.{role_of}
 use Rattle.dy_rules.specs.ConstantReading.{Element, comes, after_sign, known, Listing, started, element, ending, Inside, inside, list_found, vector_found, ConstantItem, token_of, group_of, known_list, known_vector, group_element, element_step, behind_constant, listing_step, constant_item, listed}
 use Rattle.dy_rules_depth.specs.ReaderChanges.{changed_element, changed_listing, changed_inside, changed_constant_item}
 use Rattle.dy_rules_depth.specs.Capping.{capped_constant, capping}
@@ -64,10 +68,10 @@ pub known_vector_same : (opener : Token) (items others : List Constant) → Same
 known_vector_same opener items others e = ap known (same_vector_item opener (constants_of items) (constants_of others) (constants_changed items others e))
 
 pub group_element_same : (kind : Bracket) (opener : Token) (found other : Option Listing) → SameListing found other → SameElement (group_element kind opener found) (group_element kind opener other)
-group_element_same sharp_round opener found other e =
+group_element_same brackets.SharpRound opener found other e =
     map_same (changed_inside capping) (changed_element capping) (known_list opener) (known_list opener) (option_and_then list_found found) (option_and_then list_found other) (known_list_same opener)
     (then_same (changed_listing capping) (changed_inside capping) list_found list_found found other list_found_same e)
-group_element_same sharp_square opener found other e =
+group_element_same brackets.SharpSquare opener found other e =
     map_same (map capped_constant) (changed_element capping) (known_vector opener) (known_vector opener) (option_and_then vector_found found) (option_and_then vector_found other) (known_vector_same opener)
     (then_same (changed_listing capping) (map capped_constant) vector_found vector_found found other vector_found_same e)
 group_element_same kind opener found other e = refl
@@ -83,8 +87,8 @@ pub element_same : (state other : Element) (item rest : ConstantItem) → change
 element_same state other item rest e f = cc (element_on state item, element_on other rest)
 
 behind_constant_same : (role : Role) (items others : List Constant) → SameConstants items others → SameListing (behind_constant role items) (behind_constant role others)
-behind_constant_same comma items others e = cc
-behind_constant_same dot items others e = cc
+behind_constant_same roles.Comma items others e = cc
+behind_constant_same roles.Dot items others e = cc
 behind_constant_same role items others e = refl
 
 in_list : (items others : List Constant) (state other : Option Element) → SameConstants items others → SameElement state other → SameListing (option_map (element items) state) (option_map (element others) other)

@@ -1,7 +1,9 @@
 -- Items are cut at the same places, whatever was read inside of them, and pieces are read the same to the limit where their items are.
 use Rattle.std.proofs.Common.{◌≡◌, Bool, true, false, not, ◌&&◌, List, [], ◌∷◌, map, Option, Some, None, option_map, refl, ap, ◌∙◌}
 use Rattle.dy_tree.specs.Fragments.{SeenFragment, one, group}
-use Rattle.dy_rules.specs.Roles.{Bracket, round, bracket_of}
+use Rattle.dy_tree.specs.declared.brackets.Bracket.{Bracket}
+use Rattle.dy_tree.specs.declared.brackets.Bracket.TheVariants as brackets
+use Rattle.dy_rules.specs.Roles.{bracket_of}
 use Rattle.dy_rules.specs.Cutting.{Item, Piece, Pieces, is_semicolon, is_let, cut_if, cut, with_others, each_other, each, without_if, without_end, Sides, sides_at, first_cut, fragments_in, Ending, only_part, only_last, with_part, ending_at, ending_from, ending, front_in, front_at, headed}
 use Rattle.dy_rules_depth.specs.Changes.{Change}
 use Rattle.dy_rules_depth.specs.ReaderChanges.{changed_ending, changed_item_of, changed_items, changed_piece, changed_pieces, changed_sides, changed_front}
@@ -44,7 +46,7 @@ module _ (change : Change) where
       ap (sides_at (separates item.fragment) (changed_item_of change item) (changed_items change rest)) (first_cut_changed separates rest) ∙ sides_changed (separates item.fragment) item rest (first_cut separates rest)
 
   front_in_changed : (bracket : Bracket) (item : Item) (rest : List Item) → front_in bracket (changed_item_of change item) (changed_items change rest) ≡ option_map (changed_front change) (front_in bracket item rest)
-  front_in_changed round item rest = refl
+  front_in_changed brackets.Round item rest = refl
   front_in_changed bracket item rest = refl
 
   front_at_changed : (fragment : SeenFragment) (item : Item) (rest : List Item) → front_at fragment (changed_item_of change item) (changed_items change rest) ≡ option_map (changed_front change) (front_at fragment item rest)

@@ -4,8 +4,12 @@ use Rattle.std.proofs.lemmas.List.{map-append}
 use Rattle.dy_tree.specs.declared.token.Token.{Token}
 use Rattle.dy_tree.specs.declared.types.LiteralForm.TheVariants as literals
 use Rattle.dy_tree.specs.Fragments.{SeenFragment, one, group}
+use Rattle.dy_tree.specs.declared.roles.Role.{Role}
+use Rattle.dy_tree.specs.declared.roles.Role.TheVariants as roles
+use Rattle.dy_tree.specs.declared.splitters.Splitting.{Splitting}
+use Rattle.dy_tree.specs.declared.splitters.Splitting.TheVariants as splittings
 use Rattle.dy_rules.specs.Trees.{Tree, literal, Argument, keyword, value}
-use Rattle.dy_rules.specs.Roles.{Role, symbol, comma, role_of, Splitting, nothing, bracket_of}
+use Rattle.dy_rules.specs.Roles.{role_of, bracket_of}
 use Rattle.dy_rules.specs.Arguments.{begins_value}
 use Rattle.dy_rules.specs.Cutting.{Found, Item}
 use Rattle.dy_rules.specs.Reading.{whole, State, wants, has, tree_of, Passing, nothing_passed, passes_next, symbol_first, passing, argument_of, with_last, arguments_in, arguments_at_end, fresh_role, fresh, at_comma, at_separator, after_fragment, after_item, in_value, by_symbol, after_argument, after_all, after_passing, expression_items, passed_items}
@@ -85,7 +89,7 @@ abbrev pub SameReader : Option Passing → Option Passing → Type 0
 SameReader reader other = option_map (changed_passing capping) reader ≡ option_map (changed_passing capping) other
 
 pub comma_same : (role : Role) (reader other : Passing) → changed_passing capping reader ≡ changed_passing capping other → SameReader (at_comma role reader) (at_comma role other)
-comma_same comma reader other e = map_same (map (changed_argument capping)) (changed_passing capping) passes_next passes_next (arguments_in reader) (arguments_in other) (λ passed others f. ap passes_next f) (arguments_same reader other e)
+comma_same roles.Comma reader other e = map_same (map (changed_argument capping)) (changed_passing capping) passes_next passes_next (arguments_in reader) (arguments_in other) (λ passed others f. ap passes_next f) (arguments_same reader other e)
 comma_same role reader other e = refl
 
 pub separator_same : (reader other : Passing) (fragment : SeenFragment) → changed_passing capping reader ≡ changed_passing capping other → SameReader (at_separator reader fragment) (at_separator other fragment)
@@ -93,18 +97,18 @@ separator_same reader other (one token) e = comma_same (role_of token) reader ot
 separator_same reader other (group opener inner closer) e = refl
 
 fresh_role_same : (role : Role) (passed others : List Argument) (token : Token) → map (changed_argument capping) passed ≡ map (changed_argument capping) others → SameReader (fresh_role role passed token) (fresh_role role others token)
-fresh_role_same symbol passed others token e = cc
+fresh_role_same roles.Symbol passed others token e = cc
 fresh_role_same role passed others token e = refl
 
 pub fresh_same : (passed others : List Argument) (fragment : SeenFragment) → map (changed_argument capping) passed ≡ map (changed_argument capping) others → SameReader (fresh passed fragment) (fresh others fragment)
 fresh_same passed others (one token) e = fresh_role_same (role_of token) passed others token e
 fresh_same passed others (group opener inner closer) e = refl
 
-module _ (item other : Item) (same : SameItem nothing item other) where
+module _ (item other : Item) (same : SameItem splittings.Nothing item other) where
   pub value_same : (passed others : List Argument) (token : Option Token) (state rest : State) → map (changed_argument capping) passed ≡ map (changed_argument capping) others → changed_state capping state ≡ changed_state capping rest
       → SameReader (in_value passed token state item) (in_value others token rest other)
   value_same passed others token state rest e f =
-      map_same (changed_state capping) (changed_passing capping) (passing passed token) (passing others token) (after_item nothing state item) (after_item nothing rest other) (λ next behind g. cc) (same state rest f)
+      map_same (changed_state capping) (changed_passing capping) (passing passed token) (passing others token) (after_item splittings.Nothing state item) (after_item splittings.Nothing rest other) (λ next behind g. cc) (same state rest f)
 
   pub by_symbol_same : (begins : Bool) (passed others : List Argument) (token : Token) (fragment : SeenFragment) → map (changed_argument capping) passed ≡ map (changed_argument capping) others
       → SameReader (by_symbol begins passed token fragment item) (by_symbol begins others token fragment other)
@@ -128,15 +132,15 @@ module _ (item other : Item) (same : SameItem nothing item other) where
       (separator_same (passing (map (changed_argument capping) passed) token (changed_state capping state)) (passing passed token state) fragment (cc (arguments_twice passed, state_twice state)))
 
 -- behind readers that are the same to the limit
-pub step_same : (reader other : Passing) (fragment : SeenFragment) (item rest : Item) → SameItem nothing item rest → changed_passing capping reader ≡ changed_passing capping other → SameReader (after_argument reader fragment item) (after_argument other fragment rest)
+pub step_same : (reader other : Passing) (fragment : SeenFragment) (item rest : Item) → SameItem splittings.Nothing item rest → changed_passing capping reader ≡ changed_passing capping other → SameReader (after_argument reader fragment item) (after_argument other fragment rest)
 step_same reader other fragment item rest same e =
-    sym (argument_on item item (item_itself nothing item) fragment reader) ∙ ap (λ (r : Passing). option_map (changed_passing capping) (after_argument r fragment item)) e ∙ argument_on item rest same fragment other
+    sym (argument_on item item (item_itself splittings.Nothing item) fragment reader) ∙ ap (λ (r : Passing). option_map (changed_passing capping) (after_argument r fragment item)) e ∙ argument_on item rest same fragment other
 
 pub passing_same : (items : List Item) (reader other : Passing) → changed_passing capping reader ≡ changed_passing capping other → SameReader (after_passing reader (changed_items capping items)) (after_passing other items)
 passing_same [] reader other e = ap Some e
 passing_same (item ∷ items) reader other e =
     then_same (changed_passing capping) (changed_passing capping) (λ next. after_passing next (changed_items capping items)) (λ next. after_passing next items)
-    (after_argument reader item.fragment (changed_item_of capping item)) (after_argument other item.fragment item) (passing_same items) (step_same reader other item.fragment (changed_item_of capping item) item (item_same nothing item) e)
+    (after_argument reader item.fragment (changed_item_of capping item)) (after_argument other item.fragment item) (passing_same items) (step_same reader other item.fragment (changed_item_of capping item) item (item_same splittings.Nothing item) e)
 
 pub passed_same : (items : List Item) → SamePassed (passed_items (changed_items capping items)) (passed_items items)
 passed_same items =

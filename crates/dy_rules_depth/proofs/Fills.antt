@@ -6,7 +6,8 @@ use Rattle.dy_tree.specs.declared.token.TokenKind.TheVariants as kinds
 use Rattle.dy_tree.specs.declared.token.Token.{Token}
 use Rattle.dy_tree.specs.declared.types.LiteralForm.{LiteralForm}
 use Rattle.dy_tree.specs.declared.types.LiteralForm.TheVariants as literals
-use Rattle.dy_rules.specs.Roles.{named, symbol, role_by, role_of}
+use Rattle.dy_tree.specs.declared.roles.Role.TheVariants as roles
+use Rattle.dy_rules.specs.Roles.{role_by, role_of}
 use Rattle.dy_rules.specs.ConstantTrees.{Constant, literal_item, list_item, vector_item}
 use Rattle.dy_rules.specs.Types.{TypeTree, named_type}
 use Rattle.dy_rules.specs.Trees.{Tree, name}
@@ -20,6 +21,9 @@ pub record Fills (A : Type 0) (before after : A) (depth_before depth_after : ℕ
 
 pub fills_same : (A : Type 0) (a : A) → Fills A a a 0 0
 fills_same A a = record { kept = λ le. refl }
+
+pub fills_leaf : (A : Type 0) (a : A) → Fills A a a 1 1
+fills_leaf A a = record { kept = λ le. refl }
 
 pub fills_one : {A B : Type 0} (make : A → B) {a b : A} {m n : ℕ} → Fills A a b m n → Fills B (make a) (make b) m n
 fills_one make h = record { kept = λ le. ap make (h.kept le) }
@@ -52,7 +56,7 @@ fills_constant (list_item opener items last) = record { kept = λ le. refl }
 fills_constant (vector_item opener items) = record { kept = λ le. refl }
 
 abbrev pub filled_parts : Parts
-filled_parts = record { change = filling; Related = Fills; same = fills_same; one = fills_one; two = fills_two; tree = fills_tree; type = fills_type; constant = fills_constant }
+filled_parts = record { change = filling; Related = Fills; same = fills_same; leaf = fills_leaf; one = fills_one; two = fills_two; tree = fills_tree; type = fills_type; constant = fills_constant }
 
 pub tree_filled : (tree : Tree) → depth (filled tree) ≤ depth_limit → filled tree ≡ tree
 tree_filled tree le = (fills_tree tree).kept le
@@ -76,17 +80,17 @@ absent_constant token constant e lt = rw e (constant_beyond deep_constant (omega
 
 -- what stands in a text is not absent
 
-pub named_present : (token : Token) → role_of token ≡ named → is_absent token ≡ false
+pub named_present : (token : Token) → role_of token ≡ roles.Named → is_absent token ≡ false
 named_present token = go token.kind
   where
-    go : (kind : TokenKind) → role_by kind token ≡ named → is_absent_kind kind ≡ false
+    go : (kind : TokenKind) → role_by kind token ≡ roles.Named → is_absent_kind kind ≡ false
     go kinds.PatternVar e = absurd cc
     go kind e = refl
 
-pub symbol_present : (token : Token) → role_of token ≡ symbol → is_absent token ≡ false
+pub symbol_present : (token : Token) → role_of token ≡ roles.Symbol → is_absent token ≡ false
 symbol_present token = go token.kind
   where
-    go : (kind : TokenKind) → role_by kind token ≡ symbol → is_absent_kind kind ≡ false
+    go : (kind : TokenKind) → role_by kind token ≡ roles.Symbol → is_absent_kind kind ≡ false
     go kinds.PatternVar e = absurd cc
     go kind e = refl
 

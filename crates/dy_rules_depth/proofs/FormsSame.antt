@@ -2,15 +2,20 @@
 use Rattle.std.proofs.Common.{◌≡◌, Bool, true, false, List, [], ◌∷◌, map, Option, Some, None, option_map, option_and_then, refl, ap, ◌∙◌}
 use Rattle.dy_tree.specs.declared.token.Token.{Token}
 use Rattle.dy_tree.specs.Fragments.{SeenFragment, one, group}
+use Rattle.dy_tree.specs.declared.roles.Role.{Role}
+use Rattle.dy_tree.specs.declared.roles.Role.TheVariants as roles
+use Rattle.dy_tree.specs.declared.splitters.Splitting.TheVariants as splittings
+use Rattle.dy_tree.specs.declared.definition_words.DefineWord.{DefineWord}
+use Rattle.dy_tree.specs.declared.definition_words.DefineWord.TheVariants as define_words
 use Rattle.dy_rules.specs.Types.{TypeTree, TargetTree}
 use Rattle.dy_rules.specs.Trees.{Tree, no_tree, some_tree, Key, a_key, KeysTree, Listed}
-use Rattle.dy_rules.specs.Roles.{Role, named, role_of, nothing}
+use Rattle.dy_rules.specs.Roles.{role_of}
 use Rattle.dy_rules.specs.Cutting.{NamedFound, Item, Sides, first_cut, Front, headed}
 use Rattle.dy_rules.specs.TypeReading.{target_items}
 use Rattle.dy_rules.specs.Reading.{expression_items}
 use Rattle.dy_rules.specs.Bodies.{is_equals_at}
 use Rattle.dy_rules.specs.Signatures.{ResultsFront, results_front, named_items}
-use Rattle.dy_rules.specs.Definitions.{DefineWord, class_definition, method_definition, function_definition, generic_definition, constant_definition, variable_definition, domain_definition, define_word_of, is_definition_word, suit_class, suit_function, suit_method, suit_generic, suit_domain, suit_binding}
+use Rattle.dy_rules.specs.Definitions.{define_word_of, is_definition_word, suit_class, suit_function, suit_method, suit_generic, suit_domain, suit_binding}
 use Rattle.dy_rules.specs.Forms.{SlotTree, has_no_default, all_without, no_defaults, FormTree, expression_form, class_form, generic_form, domain_form}
 use Rattle.dy_rules.specs.FormReading.{WordsFront, words_front, slots_items, class_of, names_inside, class_with, class_headed, class_named, class_at, class_items, method_of_form, function_of_form, if_suits, ended_by, ended_definition, constant_of_form, variable_of_form, bound_with, bound_sides, bound_items_of, generic_of, generic_end, generic_results, generic_if, generic_listed, generic_headed, generic_named, generic_at, generic_items, domain_of, domain_end, domain_headed, domain_named, domain_at, domain_items, flat_by, flat_definition, FormFront, expression_front, group_front, flat_front, form_front, expression_of_form, form_by, form_of}
 use Rattle.dy_rules_depth.specs.Changes.{changed_target, changed_key, changed_keys_tree, changed_listed, changed_slot, changed_form}
@@ -58,7 +63,7 @@ module _ (define : Token) (adjectives : List Token) (token : Token) where
   class_headed_same front = superclasses_same front.rest (names_inside front.first.fragment)
 
 class_named_same : (role : Role) (define : Token) (adjectives : List Token) (token : Token) → Reads (changed_form capping) (class_named role define adjectives token)
-class_named_same named define adjectives token rest = fronts_same (class_headed define adjectives token) (class_headed_same define adjectives token) rest
+class_named_same roles.Named define adjectives token rest = fronts_same (class_headed define adjectives token) (class_headed_same define adjectives token) rest
 class_named_same role define adjectives token rest = refl
 
 class_at_same : (define : Token) (adjectives : List Token) (fragment : SeenFragment) → Reads (changed_form capping) (class_at define adjectives fragment)
@@ -81,12 +86,12 @@ module _ (entry other : NamedFound) (same : changed_named capping entry ≡ chan
 -- definitions with an `end`
 
 ended_by_same : (word : DefineWord) (define : Token) (adjectives : List Token) (token : Token) → Reads (changed_form capping) (ended_by word define adjectives token)
-ended_by_same class_definition define adjectives token rest = if_suits_same (suit_class adjectives) (class_items define adjectives (changed_items capping rest)) (class_items define adjectives rest) (class_same define adjectives rest)
-ended_by_same method_definition define adjectives token rest =
+ended_by_same define_words.Class define adjectives token rest = if_suits_same (suit_class adjectives) (class_items define adjectives (changed_items capping rest)) (class_items define adjectives rest) (class_same define adjectives rest)
+ended_by_same define_words.Method define adjectives token rest =
     if_suits_same (suit_method adjectives) (option_map (method_of_form define adjectives token) (named_items (changed_items capping rest))) (option_map (method_of_form define adjectives token) (named_items rest))
     (map_same (changed_named capping) (changed_form capping) (method_of_form define adjectives token) (method_of_form define adjectives token) (named_items (changed_items capping rest)) (named_items rest) (λ entry other e. method_of_form_same entry other e define adjectives token)
     (named_same rest))
-ended_by_same function_definition define adjectives token rest =
+ended_by_same define_words.Function define adjectives token rest =
     if_suits_same (suit_function adjectives) (option_map (function_of_form define adjectives) (named_items (changed_items capping rest))) (option_map (function_of_form define adjectives) (named_items rest))
     (map_same (changed_named capping) (changed_form capping) (function_of_form define adjectives) (function_of_form define adjectives) (named_items (changed_items capping rest)) (named_items rest)
     (λ entry other e. function_of_form_same entry other e define adjectives) (named_same rest))
@@ -100,7 +105,7 @@ ended_same define front = ended_by_same (define_word_of front.token) define fron
 module _ (form : TargetTree → Tree → FormTree)
     (same : (target other : TargetTree) → changed_target capping target ≡ changed_target capping other → (tree rest : Tree) → capped tree ≡ capped rest → changed_form capping (form target tree) ≡ changed_form capping (form other rest)) where
   bound_with_same : (after : List Item) (target other : TargetTree) → changed_target capping target ≡ changed_target capping other → SameForm (bound_with form (changed_items capping after) target) (bound_with form after other)
-  bound_with_same after target other e = map_same capped (changed_form capping) (form target) (form other) (expression_items nothing (changed_items capping after)) (expression_items nothing after) (same target other e) (expression_same nothing after)
+  bound_with_same after target other e = map_same capped (changed_form capping) (form target) (form other) (expression_items splittings.Nothing (changed_items capping after)) (expression_items splittings.Nothing after) (same target other e) (expression_same splittings.Nothing after)
 
   bound_sides_same : (sides : Sides) → SameForm (bound_sides form (changed_sides capping sides)) (bound_sides form sides)
   bound_sides_same sides =
@@ -172,7 +177,7 @@ module _ (define : Token) (adjectives : List Token) (token : Token) where
       (option_map (changed_listed capping) front.first.found.listed) front.first.found.listed (generic_listed_same front.rest) (option_twice (changed_listed capping) listed_twice front.first.found.listed)
 
 generic_named_same : (role : Role) (define : Token) (adjectives : List Token) (token : Token) → Reads (changed_form capping) (generic_named role define adjectives token)
-generic_named_same named define adjectives token rest = fronts_same (generic_headed define adjectives token) (generic_headed_same define adjectives token) rest
+generic_named_same roles.Named define adjectives token rest = fronts_same (generic_headed define adjectives token) (generic_headed_same define adjectives token) rest
 generic_named_same role define adjectives token rest = refl
 
 generic_at_same : (define : Token) (adjectives : List Token) (fragment : SeenFragment) → Reads (changed_form capping) (generic_at define adjectives fragment)
@@ -198,7 +203,7 @@ domain_headed_same : (define token : Token) (front : Front) → SameForm (domain
 domain_headed_same define token front = domain_end_same define token front.first front.rest
 
 domain_named_same : (role : Role) (define token : Token) → Reads (changed_form capping) (domain_named role define token)
-domain_named_same named define token rest = fronts_same (domain_headed define token) (domain_headed_same define token) rest
+domain_named_same roles.Named define token rest = fronts_same (domain_headed define token) (domain_headed_same define token) rest
 domain_named_same role define token rest = refl
 
 domain_at_same : (define : Token) (fragment : SeenFragment) → Reads (changed_form capping) (domain_at define fragment)
@@ -212,12 +217,12 @@ domain_same define (item ∷ rest) = domain_at_same define item.fragment rest
 -- definitions without an `end`
 
 flat_by_same : (word : DefineWord) (define : Token) (adjectives : List Token) → Reads (changed_form capping) (flat_by word define adjectives)
-flat_by_same constant_definition define adjectives rest =
+flat_by_same define_words.Constant define adjectives rest =
     if_suits_same (suit_binding adjectives) (bound_items_of (constant_of_form define) (changed_items capping rest)) (bound_items_of (constant_of_form define) rest) (bound_same (constant_of_form define) (constant_of_same define) rest)
-flat_by_same variable_definition define adjectives rest =
+flat_by_same define_words.Variable define adjectives rest =
     if_suits_same (suit_binding adjectives) (bound_items_of (variable_of_form define) (changed_items capping rest)) (bound_items_of (variable_of_form define) rest) (bound_same (variable_of_form define) (variable_of_same define) rest)
-flat_by_same generic_definition define adjectives rest = if_suits_same (suit_generic adjectives) (generic_items define adjectives (changed_items capping rest)) (generic_items define adjectives rest) (generic_same define adjectives rest)
-flat_by_same domain_definition define adjectives rest = if_suits_same (suit_domain adjectives) (domain_items define (changed_items capping rest)) (domain_items define rest) (domain_same define rest)
+flat_by_same define_words.Generic define adjectives rest = if_suits_same (suit_generic adjectives) (generic_items define adjectives (changed_items capping rest)) (generic_items define adjectives rest) (generic_same define adjectives rest)
+flat_by_same define_words.Domain define adjectives rest = if_suits_same (suit_domain adjectives) (domain_items define (changed_items capping rest)) (domain_items define rest) (domain_same define rest)
 flat_by_same word define adjectives rest = refl
 
 pub flat_same : (define : Token) (front : WordsFront) → SameForm (flat_definition define (changed_words_front capping front)) (flat_definition define front)
@@ -232,7 +237,7 @@ definition_same read h items =
 
 pub form_same : (front : FormFront) → Reads (changed_form capping) (form_items front)
 form_same expression_front items =
-    map_same capped (changed_form capping) expression_of_form expression_of_form (expression_items nothing (changed_items capping items)) (expression_items nothing items) (λ tree other e. ap expression_form e) (expression_same nothing items)
+    map_same capped (changed_form capping) expression_of_form expression_of_form (expression_items splittings.Nothing (changed_items capping items)) (expression_items splittings.Nothing items) (λ tree other e. ap expression_form e) (expression_same splittings.Nothing items)
 form_same (group_front define inner) items = definition_same (ended_definition define) (ended_same define) items
 form_same (flat_front define rest) items = definition_same (flat_definition define) (flat_same define) items
 

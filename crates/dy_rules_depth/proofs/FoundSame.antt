@@ -2,7 +2,10 @@
 use Rattle.std.proofs.Common.{◌≡◌, List, refl}
 use Rattle.dy_tree.specs.declared.token.Token.{Token}
 use Rattle.dy_tree.specs.Fragments.{SeenFragments}
-use Rattle.dy_rules.specs.Roles.{nothing, Bracket, round, square, hidden, sharp_round, sharp_square, statement, special, bracket_of}
+use Rattle.dy_tree.specs.declared.brackets.Bracket.{Bracket}
+use Rattle.dy_tree.specs.declared.brackets.Bracket.TheVariants as brackets
+use Rattle.dy_tree.specs.declared.splitters.Splitting.TheVariants as splittings
+use Rattle.dy_rules.specs.Roles.{bracket_of}
 use Rattle.dy_rules.specs.Cutting.{Item}
 use Rattle.dy_rules.specs.Fragments.{tree_inside, found_of}
 use Rattle.dy_rules_depth.specs.ReaderChanges.{changed_found, changed_items}
@@ -18,13 +21,13 @@ use Rattle.dy_rules_depth.proofs.MethodsSame.{method_same, named_same}
 use Rattle.dy_rules_depth.proofs.StatementsSame.{statement_same}
 
 pub inside_same : (bracket : Bracket) (opener : Token) (inner : SeenFragments) → Reads capped (tree_inside bracket opener inner)
-inside_same sharp_round opener inner items = refl
-inside_same sharp_square opener inner items = refl
-inside_same (statement kind) opener inner items = statement_same kind opener items
-inside_same round opener inner items = expression_same nothing items
-inside_same square opener inner items = expression_same nothing items
-inside_same hidden opener inner items = expression_same nothing items
-inside_same special opener inner items = expression_same nothing items
+inside_same brackets.SharpRound opener inner items = refl
+inside_same brackets.SharpSquare opener inner items = refl
+inside_same (brackets.Statement kind) opener inner items = statement_same kind opener items
+inside_same brackets.Round opener inner items = expression_same splittings.Nothing items
+inside_same brackets.Square opener inner items = expression_same splittings.Nothing items
+inside_same brackets.Hidden opener inner items = expression_same splittings.Nothing items
+inside_same brackets.Special opener inner items = expression_same splittings.Nothing items
 
 pub found_of_same : (opener : Token) (inner : SeenFragments) (closer : Token) (items : List Item) → changed_found capping (found_of opener inner closer (changed_items capping items)) ≡ changed_found capping (found_of opener inner closer items)
 found_of_same opener inner closer items =

@@ -23,6 +23,7 @@ pub mod ParametersSame
 pub mod MethodsSame
 pub mod StatementsSame
 pub mod FoundSame
+pub mod Consistent
 pub mod SlotsSame
 pub mod FormsSame
 pub mod Fills

@@ -2,9 +2,11 @@
 use Rattle.std.proofs.Common.{◌≡◌, Bool, true, false, List, [], ◌∷◌, map, Option, option_map, option_and_then, refl, sym, ap, ◌∙◌}
 use Rattle.dy_tree.specs.declared.token.Token.{Token}
 use Rattle.dy_tree.specs.Fragments.{SeenFragment, one, group}
+use Rattle.dy_tree.specs.declared.splitters.Splitting.TheVariants as splittings
+use Rattle.dy_tree.specs.declared.splitters.Splitter.{Splitter}
+use Rattle.dy_tree.specs.declared.splitters.Splitter.TheVariants as splitters
 use Rattle.dy_rules.specs.Types.{VariableTree, binds_plainly}
 use Rattle.dy_rules.specs.Trees.{Tree, ItemTree, body_of, Otherwise, otherwise, ForClause, for_clauses_of, StopTree, stop_of}
-use Rattle.dy_rules.specs.Roles.{steps, last_part, Splitter, then_word, from_word, by_word, finally_word}
 use Rattle.dy_rules.specs.Arguments.{is_comma_fragment}
 use Rattle.dy_rules.specs.Productions.{is_limit_word}
 use Rattle.dy_rules.specs.Cutting.{Ending, Item, Piece, Pieces, is_splitter, cut, fragments_in, Front, word_of}
@@ -37,7 +39,7 @@ SameVariable variable other = changed_variable capping variable ≡ changed_vari
 -- what follows the start
 
 step_at_same : (word : Splitter) → Reads (changed_range capping) (step_at word)
-step_at_same by_word items = map_same capped (changed_range capping) step_of step_of (expression_items steps (changed_items capping items)) (expression_items steps items) (λ tree other e. ap step_of e) (expression_same steps items)
+step_at_same splitters.By items = map_same capped (changed_range capping) step_of step_of (expression_items splittings.Steps (changed_items capping items)) (expression_items splittings.Steps items) (λ tree other e. ap step_of e) (expression_same splittings.Steps items)
 step_at_same word items = refl
 
 step_in_same : (others : List Piece) → SameRange (step_in (map (changed_piece capping) others)) (step_in others)
@@ -53,7 +55,7 @@ limit_with_same word rest more f bound other e = map_same (changed_range capping
 
 limit_token_same : (fragment : SeenFragment) (items : List Item) (rest more : Option Range) → SameRange rest more → SameRange (limit_token fragment (changed_items capping items) rest) (limit_token fragment items more)
 limit_token_same (one word) items rest more e =
-    then_same capped (changed_range capping) (limit_with word rest) (limit_with word more) (expression_items steps (changed_items capping items)) (expression_items steps items) (limit_with_same word rest more e) (expression_same steps items)
+    then_same capped (changed_range capping) (limit_with word rest) (limit_with word more) (expression_items splittings.Steps (changed_items capping items)) (expression_items splittings.Steps items) (limit_with_same word rest more e) (expression_same splittings.Steps items)
 limit_token_same (group opener inner closer) items rest more e = refl
 
 range_if_same : (is : Bool) (piece : Piece) (others : List Piece) → SameRange (range_if is (changed_piece capping piece) (map (changed_piece capping) others)) (range_if is piece others)
@@ -74,9 +76,9 @@ from_with_same : (variable other : VariableTree) → SameVariable variable other
 from_with_same variable other e range more g start begin f = map_same (changed_range capping) (changed_for capping) (from_of variable start) (from_of other begin) range more (from_of_same variable other e start begin f) g
 
 from_at_same : (word : Splitter) (variable other : VariableTree) → SameVariable variable other → (items : List Item) (others : List Piece) → SameFor (from_at word variable (changed_items capping items) (map (changed_piece capping) others)) (from_at word other items others)
-from_at_same from_word variable other e items others =
-    then_same capped (changed_for capping) (from_with variable (range_in (map (changed_piece capping) others))) (from_with other (range_in others)) (expression_items steps (changed_items capping items)) (expression_items steps items)
-    (from_with_same variable other e (range_in (map (changed_piece capping) others)) (range_in others) (range_same others)) (expression_same steps items)
+from_at_same splitters.From variable other e items others =
+    then_same capped (changed_for capping) (from_with variable (range_in (map (changed_piece capping) others))) (from_with other (range_in others)) (expression_items splittings.Steps (changed_items capping items)) (expression_items splittings.Steps items)
+    (from_with_same variable other e (range_in (map (changed_piece capping) others)) (range_in others) (range_same others)) (expression_same splittings.Steps items)
 from_at_same word variable other e items others = refl
 
 from_in_same : (variable other : VariableTree) → SameVariable variable other → (others : List Piece) → SameFor (from_in variable (map (changed_piece capping) others)) (from_in other others)
@@ -85,11 +87,11 @@ from_in_same variable other e (piece ∷ others) = from_at_same (word_of piece.s
 
 then_with_same : (variable other : VariableTree) → SameVariable variable other → (items : List Item) (first begin : Tree) → capped first ≡ capped begin → SameFor (then_with variable (changed_items capping items) first) (then_with other items begin)
 then_with_same variable other e items first begin f =
-    map_same capped (changed_for capping) (then_of variable first) (then_of other begin) (expression_items steps (changed_items capping items)) (expression_items steps items) (λ next more g. cc) (expression_same steps items)
+    map_same capped (changed_for capping) (then_of variable first) (then_of other begin) (expression_items splittings.Steps (changed_items capping items)) (expression_items splittings.Steps items) (λ next more g. cc) (expression_same splittings.Steps items)
 
 then_at_same : (word : Splitter) (variable other : VariableTree) → SameVariable variable other → (first items : List Item) → SameFor (then_at word variable (changed_items capping first) (changed_items capping items)) (then_at word other first items)
-then_at_same then_word variable other e first items =
-    then_same capped (changed_for capping) (then_with variable (changed_items capping items)) (then_with other items) (expression_items steps (changed_items capping first)) (expression_items steps first) (then_with_same variable other e items) (expression_same steps first)
+then_at_same splitters.Then variable other e first items =
+    then_same capped (changed_for capping) (then_with variable (changed_items capping items)) (then_with other items) (expression_items splittings.Steps (changed_items capping first)) (expression_items splittings.Steps first) (then_with_same variable other e items) (expression_same splittings.Steps first)
 then_at_same word variable other e first items = refl
 
 then_in_same : (variable other : VariableTree) → SameVariable variable other → (first : List Item) (others : List Piece) → SameFor (then_in variable (changed_items capping first) (map (changed_piece capping) others)) (then_in other first others)
@@ -98,7 +100,7 @@ then_in_same variable other e first (piece ∷ []) = then_at_same (word_of piece
 then_in_same variable other e first (piece ∷ second ∷ others) = refl
 
 in_in_same : (variable other : VariableTree) → SameVariable variable other → (items : List Item) (others : List Piece) → SameFor (in_in variable (changed_items capping items) (map (changed_piece capping) others)) (in_in other items others)
-in_in_same variable other e items [] = map_same capped (changed_for capping) (in_of variable) (in_of other) (expression_items steps (changed_items capping items)) (expression_items steps items) (λ tree more f. cc) (expression_same steps items)
+in_in_same variable other e items [] = map_same capped (changed_for capping) (in_of variable) (in_of other) (expression_items splittings.Steps (changed_items capping items)) (expression_items splittings.Steps items) (λ tree more f. cc) (expression_same splittings.Steps items)
 in_in_same variable other e items (piece ∷ others) = refl
 
 equals_if_same : (is : Bool) (variable other : VariableTree) → SameVariable variable other → (rest : List Item) (others : List Piece) → SameFor (equals_if is variable (changed_items capping rest) (map (changed_piece capping) others)) (equals_if is other rest others)
@@ -135,11 +137,11 @@ clause_if_same false pieces = refl
 
 clause_pieces_same : (pieces : Pieces) → SameFor (clause_pieces (changed_pieces capping pieces)) (clause_pieces pieces)
 clause_pieces_same pieces =
-    ap (λ (fragments : List SeenFragment). option_map (changed_for capping) (clause_if (binds_plainly steps fragments) (changed_pieces capping pieces))) (fragments_changed capping pieces.first)
-    ∙ clause_if_same (binds_plainly steps (fragments_in pieces.first)) pieces
+    ap (λ (fragments : List SeenFragment). option_map (changed_for capping) (clause_if (binds_plainly splittings.Steps fragments) (changed_pieces capping pieces))) (fragments_changed capping pieces.first)
+    ∙ clause_if_same (binds_plainly splittings.Steps (fragments_in pieces.first)) pieces
 
 pub clause_same : Reads (changed_for capping) clause_items
-clause_same items = ap (λ (pieces : Pieces). option_map (changed_for capping) (clause_pieces pieces)) (cut_changed capping (is_splitter steps) true items) ∙ clause_pieces_same (cut (is_splitter steps) true items)
+clause_same items = ap (λ (pieces : Pieces). option_map (changed_for capping) (clause_pieces pieces)) (cut_changed capping (is_splitter splittings.Steps) true items) ∙ clause_pieces_same (cut (is_splitter splittings.Steps) true items)
 
 -- heads
 
@@ -148,7 +150,7 @@ stop_kept [] = refl
 stop_kept (item ∷ rest) = refl
 
 stop_token_same : (fragment : SeenFragment) (rest : List Item) → option_map (changed_stop_tree capping) (stop_token fragment (changed_items capping rest)) ≡ option_map (changed_stop_tree capping) (stop_token fragment rest)
-stop_token_same (one word) rest = map_same capped (changed_stop_tree capping) (stop_with word) (stop_with word) (expression_items steps (changed_items capping rest)) (expression_items steps rest) (λ tree other e. ap (stop_with word) e) (expression_same steps rest)
+stop_token_same (one word) rest = map_same capped (changed_stop_tree capping) (stop_with word) (stop_with word) (expression_items splittings.Steps (changed_items capping rest)) (expression_items splittings.Steps rest) (λ tree other e. ap (stop_with word) e) (expression_same splittings.Steps rest)
 stop_token_same (group opener inner closer) rest = refl
 
 pub stop_same : Reads (changed_stop_tree capping) stop_items
@@ -168,7 +170,7 @@ pub finally_of_same : (trees others : List ItemTree) → SameTrees trees others 
 finally_of_same trees others e = ap otherwise (body_changed trees others e)
 
 finally_at_same : (word : Splitter) → Reads (changed_otherwise capping) (finally_at word)
-finally_at_same finally_word items = map_same (map (changed_item capping)) (changed_otherwise capping) finally_of finally_of (body_items last_part (changed_items capping items)) (body_items last_part items) finally_of_same (body_same last_part items)
+finally_at_same splitters.Finally items = map_same (map (changed_item capping)) (changed_otherwise capping) finally_of finally_of (body_items splittings.LastPart (changed_items capping items)) (body_items splittings.LastPart items) finally_of_same (body_same splittings.LastPart items)
 finally_at_same word items = refl
 
 finally_same : (others : List Piece) → SameLast (finally_in (map (changed_piece capping) others)) (finally_in others)
@@ -189,12 +191,12 @@ for_body_same word head other e last more g trees others f = map_same (changed_o
 for_pieces_same : (word : Token) (pieces : Pieces) (head other : Ending ForClause StopTree) → changed_loop capping head ≡ changed_loop capping other → option_map capped (for_pieces word (changed_pieces capping pieces) head) ≡ option_map capped (for_pieces word pieces other)
 for_pieces_same word pieces head other e =
     then_same (map (changed_item capping)) capped (for_body word head (finally_in (map (changed_piece capping) pieces.others))) (for_body word other (finally_in pieces.others))
-    (body_items last_part (changed_items capping pieces.first)) (body_items last_part pieces.first)
-    (for_body_same word head other e (finally_in (map (changed_piece capping) pieces.others)) (finally_in pieces.others) (finally_same pieces.others)) (body_same last_part pieces.first)
+    (body_items splittings.LastPart (changed_items capping pieces.first)) (body_items splittings.LastPart pieces.first)
+    (for_body_same word head other e (finally_in (map (changed_piece capping) pieces.others)) (finally_in pieces.others) (finally_same pieces.others)) (body_same splittings.LastPart pieces.first)
 
 pub for_same : (word : Token) (front : Front) → option_map capped (for_statement word (changed_front capping front)) ≡ option_map capped (for_statement word front)
 for_same word front =
-    let pieces : Pieces = cut (is_splitter last_part) false front.rest in
-    ap (λ (found : Pieces). option_map capped (option_and_then (for_pieces word found) (option_map (changed_loop capping) front.first.found.clauses))) (cut_changed capping (is_splitter last_part) false front.rest)
+    let pieces : Pieces = cut (is_splitter splittings.LastPart) false front.rest in
+    ap (λ (found : Pieces). option_map capped (option_and_then (for_pieces word found) (option_map (changed_loop capping) front.first.found.clauses))) (cut_changed capping (is_splitter splittings.LastPart) false front.rest)
     ∙ then_same (changed_loop capping) capped (for_pieces word (changed_pieces capping pieces)) (for_pieces word pieces) (option_map (changed_loop capping) front.first.found.clauses) front.first.found.clauses
     (for_pieces_same word pieces) (option_twice (changed_loop capping) loop_twice front.first.found.clauses)

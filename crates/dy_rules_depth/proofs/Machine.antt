@@ -1,9 +1,16 @@
 -- The reader of expressions gives the same to the limit, whatever stands in the place of trees that are too deep: token by token.
 use Rattle.std.proofs.Common.{◌≡◌, ℕ, suc, nat_lt, Bool, true, false, List, map, Option, Some, option_map, refl, sym, ap, ◌∙◌}
 use Rattle.dy_tree.specs.declared.token.Token.{Token}
-use Rattle.dy_rules.specs.Operators.{Precedence, sum, below}
+use Rattle.dy_tree.specs.declared.roles.Role.{Role}
+use Rattle.dy_tree.specs.declared.roles.Role.TheVariants as roles
+use Rattle.dy_tree.specs.declared.roles.Precedence.{Precedence}
+use Rattle.dy_tree.specs.declared.roles.Precedence.TheVariants as precedences
+use Rattle.dy_tree.specs.declared.brackets.Bracket.{Bracket}
+use Rattle.dy_tree.specs.declared.brackets.Bracket.TheVariants as brackets
+use Rattle.dy_tree.specs.declared.splitters.Splitting.{Splitting}
+use Rattle.dy_rules.specs.Operators.{below}
 use Rattle.dy_rules.specs.Trees.{Tree, assignment, operation, unary, literal, Argument, arguments_of}
-use Rattle.dy_rules.specs.Roles.{Role, named, operator, minus, assigns, dot, role_of, Splitting, splits, Bracket, round, square, hidden, sharp_round, sharp_square, statement, positive}
+use Rattle.dy_rules.specs.Roles.{role_of, splits, positive}
 use Rattle.dy_rules.specs.Reading.{Outer, whole, operated, under, assigned, Part, State, wants, counted, has, dotted, reduced, finished, under_sign, integer_part, settled, name_if, at_operand, operates, assigns_to, behind, member_if, behind_dot, at_token, in_brackets, indexed, called, group_behind, group_at_operand, at_group, finished_part, tree_of}
 use Rattle.dy_rules_depth.specs.Changes.{changed_argument}
 use Rattle.dy_rules_depth.specs.ReaderChanges.{changed_outer, changed_part, changed_state}
@@ -41,7 +48,7 @@ finished_same part other e =
     sym (finished_on part.0 part.0 part.1 refl) ∙ ap (λ (outer : Outer). capped (finished part.0 outer)) (ap (λ (p : Part). p.1) e) ∙ finished_on part.0 other.0 other.1 (ap (λ (p : Part). p.0) e)
 
 under_sign_on : (role : Role) (sign digits : Token) (outer : Outer) → changed_part capping (under_sign role sign digits (changed_outer capping outer)) ≡ changed_part capping (under_sign role sign digits outer)
-under_sign_on minus sign digits outer = cc (outer_twice outer)
+under_sign_on roles.Minus sign digits outer = cc (outer_twice outer)
 under_sign_on role sign digits outer = cc (outer_twice outer)
 
 pub integer_on : (digits : Token) (outer : Outer) → changed_part capping (integer_part digits (changed_outer capping outer)) ≡ changed_part capping (integer_part digits outer)
@@ -70,7 +77,7 @@ name_same false token outer other e = cc
 
 pub operand_same : (words : Splitting) (outer other : Outer) (token : Token) (role : Role) → changed_outer capping outer ≡ changed_outer capping other
     → option_map (changed_state capping) (at_operand words outer token role) ≡ option_map (changed_state capping) (at_operand words other token role)
-operand_same words outer other token named e = name_same (splits words token) token outer other e
+operand_same words outer other token roles.Named e = name_same (splits words token) token outer other e
 operand_same words outer other token role e = cc
 
 pub operates_same : (precedence : Precedence) (sign : Token) (part other : Part) → changed_part capping part ≡ changed_part capping other → changed_state capping (operates precedence sign part) ≡ changed_state capping (operates precedence sign other)
@@ -81,11 +88,11 @@ assigns_same part other e = ap (λ (p : Part). wants (assigned p.0 p.1)) e
 
 pub behind_same : (alone other part rest : Part) (token : Token) (role : Role) → changed_part capping alone ≡ changed_part capping other → changed_part capping part ≡ changed_part capping rest
     → option_map (changed_state capping) (behind alone part token role) ≡ option_map (changed_state capping) (behind other rest token role)
-behind_same alone other part rest token (operator precedence) e f =
+behind_same alone other part rest token (roles.Operator precedence) e f =
     ap Some (operates_same precedence token (reduced (suc (below precedence)) part.0 part.1) (reduced (suc (below precedence)) rest.0 rest.1) (reduced_same (suc (below precedence)) part rest f))
-behind_same alone other part rest token minus e f = ap Some (operates_same sum token (reduced (suc (below sum)) part.0 part.1) (reduced (suc (below sum)) rest.0 rest.1) (reduced_same (suc (below sum)) part rest f))
-behind_same alone other part rest token assigns e f = ap Some (assigns_same (reduced 5 part.0 part.1) (reduced 5 rest.0 rest.1) (reduced_same 5 part rest f))
-behind_same alone other part rest token dot e f = ap (λ (p : Part). Some (dotted p.0 p.1)) e
+behind_same alone other part rest token roles.Minus e f = ap Some (operates_same precedences.Sum token (reduced (suc (below precedences.Sum)) part.0 part.1) (reduced (suc (below precedences.Sum)) rest.0 rest.1) (reduced_same (suc (below precedences.Sum)) part rest f))
+behind_same alone other part rest token roles.Assigns e f = ap Some (assigns_same (reduced 5 part.0 part.1) (reduced 5 rest.0 rest.1) (reduced_same 5 part rest f))
+behind_same alone other part rest token roles.Dot e f = ap (λ (p : Part). Some (dotted p.0 p.1)) e
 behind_same alone other part rest token role e f = refl
 
 pub member_same : (is : Bool) (tree other : Tree) (outer rest : Outer) (token : Token) → capped tree ≡ capped other → changed_outer capping outer ≡ changed_outer capping rest
@@ -95,7 +102,7 @@ member_same false tree other outer rest token e f = cc (same_member tree other t
 
 pub dot_same : (words : Splitting) (tree other : Tree) (outer rest : Outer) (token : Token) (role : Role) → capped tree ≡ capped other → changed_outer capping outer ≡ changed_outer capping rest
     → option_map (changed_state capping) (behind_dot words tree outer token role) ≡ option_map (changed_state capping) (behind_dot words other rest token role)
-dot_same words tree other outer rest token named e f = member_same (splits words token) tree other outer rest token e f
+dot_same words tree other outer rest token roles.Named e f = member_same (splits words token) tree other outer rest token e f
 dot_same words tree other outer rest token role e f = refl
 
 has_twice : (tree : Tree) (outer : Outer) → changed_part capping (capped tree, changed_outer capping outer) ≡ changed_part capping (tree, outer)
@@ -136,8 +143,8 @@ SamePassed passed others = option_map (map (changed_argument capping)) passed �
 
 pub group_behind_same : (part rest : Part) (opener : Token) (bracket : Bracket) (tree other : Option Tree) (passed others : Option (List Argument)) → changed_part capping part ≡ changed_part capping rest → option_map capped tree ≡ option_map capped other → SamePassed passed others
     → option_map (changed_state capping) (group_behind part opener bracket tree passed) ≡ option_map (changed_state capping) (group_behind rest opener bracket other others)
-group_behind_same part rest opener round tree other passed others e f g = map_same (map (changed_argument capping)) (changed_state capping) (called part) (called rest) passed others (called_same part rest e) g
-group_behind_same part rest opener square tree other passed others e f g = map_same capped (changed_state capping) (indexed part opener) (indexed rest opener) tree other (indexed_same part rest opener e) f
+group_behind_same part rest opener brackets.Round tree other passed others e f g = map_same (map (changed_argument capping)) (changed_state capping) (called part) (called rest) passed others (called_same part rest e) g
+group_behind_same part rest opener brackets.Square tree other passed others e f g = map_same capped (changed_state capping) (indexed part opener) (indexed rest opener) tree other (indexed_same part rest opener e) f
 group_behind_same part rest opener bracket tree other passed others e f g = refl
 
 pub group_at_operand_same : (outer rest : Outer) (bracket : Bracket) (tree other : Option Tree) → changed_outer capping outer ≡ changed_outer capping rest → option_map capped tree ≡ option_map capped other
@@ -148,11 +155,11 @@ group_at_operand_same outer rest bracket tree other e f = go bracket
     inner = map_same capped (changed_state capping) (in_brackets outer) (in_brackets rest) tree other (brackets_same outer rest e) f
 
     go : (kind : Bracket) → option_map (changed_state capping) (group_at_operand outer kind tree) ≡ option_map (changed_state capping) (group_at_operand rest kind other)
-    go round = inner
-    go hidden = inner
-    go sharp_round = inner
-    go sharp_square = inner
-    go (statement kind) = inner
+    go brackets.Round = inner
+    go brackets.Hidden = inner
+    go brackets.SharpRound = inner
+    go brackets.SharpSquare = inner
+    go (brackets.Statement kind) = inner
     go kind = refl
 
 pub group_on : (state : State) (opener : Token) (bracket : Bracket) (tree other : Option Tree) (passed others : Option (List Argument)) → option_map capped tree ≡ option_map capped other → SamePassed passed others

@@ -3,7 +3,8 @@ use Rattle.std.proofs.Common.{◌≡◌, ℕ, ◌+◌, ◌<◌, nat_lt, Bool, tr
 use Rattle.std.proofs.lemmas.Bool.{ltb-true, ltb-false}
 use Rattle.dy_tree.specs.declared.token.Token.{Token}
 use Rattle.dy_tree.specs.declared.types.LiteralForm.{LiteralForm}
-use Rattle.dy_rules.specs.Operators.{Precedence, Guard}
+use Rattle.dy_tree.specs.declared.roles.Precedence.{Precedence}
+use Rattle.dy_tree.specs.declared.brackets.Guard.{Guard}
 use Rattle.dy_rules.specs.ConstantTrees.{Constant, literal_item, list_item, vector_item, Constants, Tail}
 use Rattle.dy_rules.specs.Types.{TypeTree, named_type, singleton_type, union_type, limited_type, TypeTrees, Single, Bound}
 use Rattle.dy_rules.specs.Trees.{Tree, assignment, operation, unary, call, element, member, literal, name, list, vector, begin_tree, if_tree, guarded, case_tree, select_tree, block_tree, for_tree, method_tree, Parameters, BlockClauses, ForClauses, MaybeStop, MaybeTree, Body, Alternatives, Otherwise, Arms, Arguments}

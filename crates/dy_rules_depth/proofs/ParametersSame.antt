@@ -2,9 +2,16 @@
 use Rattle.std.proofs.Common.{◌≡◌, Bool, true, false, List, [], ◌∷◌, codes, map, Option, Some, None, option_map, option_and_then, refl, ap, ◌∙◌}
 use Rattle.dy_tree.specs.declared.token.Token.{Token}
 use Rattle.dy_tree.specs.Fragments.{SeenFragment, one, group, SeenFragments, no_fragment, fragment_and}
-use Rattle.dy_rules.specs.Types.{VariableTree, RequiredTree, required_variable, ResultTree, several_results, PartWord, next_word, rest_word, key_word, all_keys_word, no_part_word}
+use Rattle.dy_tree.specs.declared.roles.Role.{Role}
+use Rattle.dy_tree.specs.declared.roles.Role.TheVariants as roles
+use Rattle.dy_tree.specs.declared.brackets.Bracket.{Bracket}
+use Rattle.dy_tree.specs.declared.brackets.Bracket.TheVariants as brackets
+use Rattle.dy_tree.specs.declared.splitters.Splitting.TheVariants as splittings
+use Rattle.dy_tree.specs.declared.type_words.PartWord.{PartWord}
+use Rattle.dy_tree.specs.declared.type_words.PartWord.TheVariants as part_words
+use Rattle.dy_rules.specs.Types.{VariableTree, RequiredTree, required_variable, ResultTree, several_results}
 use Rattle.dy_rules.specs.Trees.{MaybeTree, Key, KeysTree, Listed}
-use Rattle.dy_rules.specs.Roles.{Role, symbol, role_of, nothing, Bracket, round, bracket_of}
+use Rattle.dy_rules.specs.Roles.{role_of, bracket_of}
 use Rattle.dy_rules.specs.Arguments.{is_comma_fragment}
 use Rattle.dy_rules.specs.Cutting.{Ending, Found, Item, Piece, Pieces, is_arrow, cut, fragments_in}
 use Rattle.dy_rules.specs.TypeReading.{single_in, VariableFront, variable_front, variable_items, marked, name_items}
@@ -39,8 +46,8 @@ in_front_same : (rest : List Item) (results other : ResultTree) → changed_resu
 in_front_same rest results other e = cc (items_twice rest)
 
 given_in_same : (bracket : Bracket) (inner : SeenFragments) (found : Found) (rest : List Item) → SameResultsFront (given_in bracket inner (changed_found capping found) (changed_items capping rest)) (given_in bracket inner found rest)
-given_in_same round no_fragment found rest = ap (λ (items : List Item). Some (results_in_front items (several_results [] None))) (items_twice rest)
-given_in_same round (fragment_and first others) found rest =
+given_in_same brackets.Round no_fragment found rest = ap (λ (items : List Item). Some (results_in_front items (several_results [] None))) (items_twice rest)
+given_in_same brackets.Round (fragment_and first others) found rest =
     map_same (changed_results capping) (changed_results_front capping) (results_in_front (changed_items capping rest)) (results_in_front rest) (option_map several_given (option_map (changed_given capping) found.given)) (option_map several_given found.given) (in_front_same rest)
     (map_same (changed_given capping) (changed_results capping) several_given several_given (option_map (changed_given capping) found.given) found.given several_given_same (option_twice (changed_given capping) given_twice found.given))
 given_in_same bracket inner found rest = refl
@@ -80,7 +87,7 @@ required_same (first ∷ second ∷ rest) = required_if_same (is_identity_at sec
 -- keys
 
 initial_if_same : (is : Bool) → Reads (changed_maybe capping) (initial_if is)
-initial_if_same true rest = map_same capped (changed_maybe capping) initial_of initial_of (expression_items nothing (changed_items capping rest)) (expression_items nothing rest) (λ tree other e. ap initial_of e) (expression_same nothing rest)
+initial_if_same true rest = map_same capped (changed_maybe capping) initial_of initial_of (expression_items splittings.Nothing (changed_items capping rest)) (expression_items splittings.Nothing rest) (λ tree other e. ap initial_of e) (expression_same splittings.Nothing rest)
 initial_if_same false rest = refl
 
 pub initial_same : Reads (changed_maybe capping) initial_items
@@ -101,7 +108,7 @@ key_from_same label items = then_same (changed_variable_front capping) (changed_
 
 key_token_same : (role : Role) (token : Token) (item : Item) (rest : List Item)
     → option_map (changed_key capping) (key_token role token (changed_item_of capping item) (changed_items capping rest)) ≡ option_map (changed_key capping) (key_token role token item rest)
-key_token_same symbol token item rest = key_from_same (Some token) rest
+key_token_same roles.Symbol token item rest = key_from_same (Some token) rest
 key_token_same role token item rest = key_from_same None (item ∷ rest)
 
 key_at_same : (fragment : SeenFragment) (item : Item) (rest : List Item)
@@ -206,12 +213,12 @@ module _ (found other : Option Listed) (same : SameListed found other) where
   required_then items = then_same (changed_required capping) (changed_listed capping) (after_required found) (after_required other) (required_items (changed_items capping items)) (required_items items) after_required_same (required_same items)
 
   part_with_same : (word : PartWord) (item : Item) (rest : List Item) (others : List Piece) → SameListed (part_with word (changed_item_of capping item) (changed_items capping rest) (map (changed_piece capping) others) found) (part_with word item rest others other)
-  part_with_same next_word item rest others = names_then (after_next found) (after_next other) after_next_same (item ∷ rest)
-  part_with_same rest_word item rest others = names_then (after_rest found) (after_rest other) after_rest_same (item ∷ rest)
-  part_with_same key_word item rest others =
+  part_with_same part_words.Next item rest others = names_then (after_next found) (after_next other) after_next_same (item ∷ rest)
+  part_with_same part_words.Rest item rest others = names_then (after_rest found) (after_rest other) after_rest_same (item ∷ rest)
+  part_with_same part_words.Key item rest others =
       map_same (changed_keys_tree capping) (changed_listed capping) listed_keys listed_keys (keys_from (changed_items capping rest) (map (changed_piece capping) others)) (keys_from rest others) (λ keys more e. ap listed_keys e) (keys_from_same rest others)
-  part_with_same all_keys_word item rest others = required_then (item ∷ rest)
-  part_with_same no_part_word item rest others = required_then (item ∷ rest)
+  part_with_same part_words.AllKeys item rest others = required_then (item ∷ rest)
+  part_with_same part_words.Absent item rest others = required_then (item ∷ rest)
 
   part_at_same : (items : List Item) (others : List Piece) → SameListed (part_at (changed_items capping items) (map (changed_piece capping) others) found) (part_at items others other)
   part_at_same [] others = refl

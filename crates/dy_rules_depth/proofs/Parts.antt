@@ -1,7 +1,7 @@
 -- A relation of trees to others in their places holds of everything that holds trees, where it holds of all that is made of parts.
 use Rattle.std.proofs.Common.{ℕ, max, List, [], ◌∷◌, map, Option, Some, None, option_map}
 use Rattle.dy_rules.specs.ConstantTrees.{Constant, Constants, no_constant, constant_and, Tail, no_tail, tail}
-use Rattle.dy_rules.specs.Types.{TypeTree, TypeTrees, no_type, type_and, VariableTree, TargetTree, one_target, several, RequiredTree, required_variable, required_single, ResultTree, several_results, one_result}
+use Rattle.dy_rules.specs.Types.{TypeTree, TypeTrees, no_type, type_and, Single, VariableTree, TargetTree, one_target, several, RequiredTree, required_variable, required_single, ResultTree, several_results, one_result}
 use Rattle.dy_rules.specs.Trees.{Tree, Parameters, parameters, MaybeKeys, no_keys, some_keys, Keys, no_key, key_and, Key, a_key, LocalMethods, no_method, method_and, LocalMethod, local_method, BlockClauses, no_clause, clause_and, BlockClause, afterwards_clause, cleanup_clause, exception_clause, ForClauses, no_for_clause, for_clause_and, ForClause, then_clause, in_clause, from_clause, MaybeLimit, no_limit, a_limit, MaybeStop, no_stop, a_stop, MaybeTree, no_tree, some_tree, Body, no_item, item_and, ItemTree, let_item, handler_item, local_item, expression_item, Alternatives, no_alternative, alternative_and, Alternative, alternative, Otherwise, no_otherwise, otherwise, Arms, no_arm, arm_and, Arm, arm, Tests, no_test, test_and, Arguments, no_argument, argument_and, Argument, keyword, value}
 use Rattle.dy_rules.specs.Forms.{SlotOption, init_keyword, required_init_keyword, init_value, init_function, setter, SlotTree}
 use Rattle.dy_rules.specs.Depth.{depth, type_depth, constant_depth, constants_depth, tail_depth, types_depth, declared_depth, variable_depth, variables_depth, target_depth, required_depth, given_depth, results_depth, parameters_depth, maybe_keys_depth, keys_depth, key_depth, methods_depth, method_depth, block_clauses_depth, block_clause_depth, for_clauses_depth, for_clause_depth, limit_depth, stop_depth, maybe_depth, arms_depth, arm_depth, tests_depth, body_depth, item_depth, alternatives_depth, alternative_depth, otherwise_depth, arguments_depth, argument_depth}
@@ -13,6 +13,7 @@ pub record Parts : Type 1 where
   pub change : Change
   pub Related : (A : Type 0) → A → A → ℕ → ℕ → Type 0
   pub same : (A : Type 0) (a : A) → Related A a a 0 0
+  pub leaf : (A : Type 0) (a : A) → Related A a a 1 1
   pub one : {A B : Type 0} (make : A → B) {a b : A} {m n : ℕ} → Related A a b m n → Related B (make a) (make b) m n
   pub two : {A B C : Type 0} (make : A → B → C) {a b : A} {m n : ℕ} {c d : B} {k l : ℕ} → Related A a b m n → Related B c d k l → Related C (make a c) (make b d) (max m k) (max n l)
   pub tree : (tree : Tree) → Related Tree tree (change.on_tree tree) (depth tree) (depth (change.on_tree tree))
@@ -60,7 +61,7 @@ module _ (parts : Parts) where
   pub related_required : (required : List RequiredTree) → parts.Related (List RequiredTree) required (map (changed_required parts.change) required) (required_depth required) (required_depth (map (changed_required parts.change) required))
   related_required [] = parts.same (List RequiredTree) []
   related_required (required_variable variable ∷ rest) = parts.two (λ (v : VariableTree) (others : List RequiredTree). required_variable v ∷ others) (related_variable variable) (related_required rest)
-  related_required (required_single token single ∷ rest) = parts.one (λ (others : List RequiredTree). required_single token single ∷ others) (related_required rest)
+  related_required (required_single token single ∷ rest) = parts.two (λ (s : Single) (others : List RequiredTree). required_single token s ∷ others) (parts.leaf Single single) (related_required rest)
 
   related_given : (given : Option VariableTree) → parts.Related (Option VariableTree) given (option_map (changed_variable parts.change) given) (given_depth given) (given_depth (option_map (changed_variable parts.change) given))
   related_given None = parts.same (Option VariableTree) None

@@ -1,7 +1,8 @@
 -- Trees are the same to the limit where their parts are.
 use Rattle.std.proofs.Common.{◌≡◌, Option}
 use Rattle.dy_tree.specs.declared.token.Token.{Token}
-use Rattle.dy_rules.specs.Operators.{Precedence, Guard}
+use Rattle.dy_tree.specs.declared.roles.Precedence.{Precedence}
+use Rattle.dy_tree.specs.declared.brackets.Guard.{Guard}
 use Rattle.dy_rules.specs.ConstantTrees.{list_item, vector_item, Constants, Tail}
 use Rattle.dy_rules.specs.Types.{union_type, TypeTrees}
 use Rattle.dy_rules.specs.Trees.{Tree, assignment, operation, unary, call, element, member, list, vector, begin_tree, if_tree, guarded, case_tree, select_tree, block_tree, for_tree, method_tree, Parameters, BlockClauses, ForClauses, MaybeStop, MaybeTree, Body, Alternatives, Otherwise, Arms, Arguments}

@@ -1,21 +1,25 @@
 -- Slots are read the same to the limit, whatever stands in the place of trees that are too deep.
-use Rattle.std.proofs.Common.{◌≡◌, Bool, true, false, List, [], ◌∷◌, map, Option, Some, None, option_map, option_and_then, refl, ap, ◌∙◌}
+use Rattle.std.proofs.Common.{◌≡◌, Bool, true, false, List, [], ◌∷◌, map, Option, Some, None, option_map, option_and_then, refl, sym, ap, ◌∙◌}
 use Rattle.dy_tree.specs.declared.token.Token.{Token}
 use Rattle.dy_tree.specs.Fragments.{SeenFragment, one, group}
+use Rattle.dy_tree.specs.declared.splitters.Splitting.TheVariants as splittings
+use Rattle.dy_tree.specs.declared.definition_words.OptionWord.{OptionWord}
+use Rattle.dy_tree.specs.declared.definition_words.OptionWord.TheVariants as option_words
 use Rattle.dy_rules.specs.Types.{VariableTree}
 use Rattle.dy_rules.specs.Trees.{MaybeTree}
-use Rattle.dy_rules.specs.Roles.{nothing}
 use Rattle.dy_rules.specs.Arguments.{is_comma_fragment}
 use Rattle.dy_rules.specs.Cutting.{Item, Piece, Pieces, is_semicolon, cut, each_other}
 use Rattle.dy_rules.specs.TypeReading.{VariableFront, variable_front}
 use Rattle.dy_rules.specs.Reading.{expression_items}
 use Rattle.dy_rules.specs.Signatures.{initial_items}
-use Rattle.dy_rules.specs.Definitions.{suit_slot, is_slot_word, OptionWord, keyword_option, required_option, value_option, function_option, setter_option, no_option_word, option_word}
-use Rattle.dy_rules.specs.Forms.{SlotOption, SlotTree}
+use Rattle.dy_rules.specs.Definitions.{suit_slot, is_slot_word, option_word}
+use Rattle.dy_rules.specs.Tests.{only_if, if_passes}
+use Rattle.dy_rules.specs.Forms.{SlotOption, SlotTree, is_consistent}
 use Rattle.dy_rules.specs.FormReading.{WordsFront, word_if, word_at, words_front, symbol_in, setter_in, keyword_of, required_of, value_of, function_of, option_by, option_at, option_items, slot_of, slot_variable, slot_if, slot_words, slot_front, slot_pieces, slot_items, slots_from, slots_pieces, slots_items}
 use Rattle.dy_rules_depth.specs.Changes.{Change, changed_variable, changed_maybe, changed_option, changed_slot}
 use Rattle.dy_rules_depth.specs.ReaderChanges.{changed_items, changed_piece, changed_pieces, changed_variable_front, changed_words_front}
 use Rattle.dy_rules_depth.specs.Capping.{capped, capping}
+use Rattle.dy_rules_depth.proofs.Consistent.{consistent_capped}
 use Rattle.dy_rules_depth.proofs.Options.{map_same, then_same, then_on}
 use Rattle.dy_rules_depth.proofs.CutsSame.{fragments_changed, cut_changed, Reads, reads_on, with_others_same, each_other_same}
 use Rattle.dy_rules_depth.proofs.TypesSame.{variable_front_same}
@@ -43,12 +47,12 @@ module _ (change : Change) where
 -- options
 
 option_by_same : (word : OptionWord) → Reads (changed_option capping) (option_by word)
-option_by_same keyword_option rest = ap (λ (fragments : List SeenFragment). option_map (changed_option capping) (option_map keyword_of (symbol_in fragments))) (fragments_changed capping rest)
-option_by_same required_option rest = ap (λ (fragments : List SeenFragment). option_map (changed_option capping) (option_map required_of (symbol_in fragments))) (fragments_changed capping rest)
-option_by_same value_option rest = map_same capped (changed_option capping) value_of value_of (expression_items nothing (changed_items capping rest)) (expression_items nothing rest) (λ tree other e. ap value_of e) (expression_same nothing rest)
-option_by_same function_option rest = map_same capped (changed_option capping) function_of function_of (expression_items nothing (changed_items capping rest)) (expression_items nothing rest) (λ tree other e. ap function_of e) (expression_same nothing rest)
-option_by_same setter_option rest = ap (λ (fragments : List SeenFragment). option_map (changed_option capping) (setter_in fragments)) (fragments_changed capping rest)
-option_by_same no_option_word rest = refl
+option_by_same option_words.Keyword rest = ap (λ (fragments : List SeenFragment). option_map (changed_option capping) (option_map keyword_of (symbol_in fragments))) (fragments_changed capping rest)
+option_by_same option_words.Required rest = ap (λ (fragments : List SeenFragment). option_map (changed_option capping) (option_map required_of (symbol_in fragments))) (fragments_changed capping rest)
+option_by_same option_words.Value rest = map_same capped (changed_option capping) value_of value_of (expression_items splittings.Nothing (changed_items capping rest)) (expression_items splittings.Nothing rest) (λ tree other e. ap value_of e) (expression_same splittings.Nothing rest)
+option_by_same option_words.Function rest = map_same capped (changed_option capping) function_of function_of (expression_items splittings.Nothing (changed_items capping rest)) (expression_items splittings.Nothing rest) (λ tree other e. ap function_of e) (expression_same splittings.Nothing rest)
+option_by_same option_words.Setter rest = ap (λ (fragments : List SeenFragment). option_map (changed_option capping) (setter_in fragments)) (fragments_changed capping rest)
+option_by_same option_words.Absent rest = refl
 
 option_at_same : (fragment : SeenFragment) → Reads (changed_option capping) (option_at fragment)
 option_at_same (one token) rest = option_by_same (option_word token) rest
@@ -95,8 +99,19 @@ slot_pieces_same pieces =
     ∙ then_on (changed_words_front capping) (changed_slot capping) (slot_front (each_other option_items (map (changed_piece capping) pieces.others))) (slot_front (each_other option_items pieces.others)) (words_front is_slot_word pieces.first)
     (slot_front_same (each_other option_items (map (changed_piece capping) pieces.others)) (each_other option_items pieces.others) (each_other_same (changed_option capping) option_items option_same pieces.others))
 
+only_if_same : (is : Bool) (slot other : SlotTree) → changed_slot capping slot ≡ changed_slot capping other → SameSlot (only_if is slot) (only_if is other)
+only_if_same true slot other e = ap Some e
+only_if_same false slot other e = refl
+
+consistent_same : (slot other : SlotTree) → changed_slot capping slot ≡ changed_slot capping other → SameSlot (if_passes is_consistent slot) (if_passes is_consistent other)
+consistent_same slot other e =
+    let same : is_consistent slot ≡ is_consistent other = sym (consistent_capped slot) ∙ ap is_consistent e ∙ consistent_capped other in
+    ap (λ (b : Bool). option_map (changed_slot capping) (only_if b slot)) same ∙ only_if_same (is_consistent other) slot other e
+
 pub slot_same : Reads (changed_slot capping) slot_items
-slot_same items = ap (λ (pieces : Pieces). option_map (changed_slot capping) (slot_pieces pieces)) (cut_changed capping is_comma_fragment false items) ∙ slot_pieces_same (cut is_comma_fragment false items)
+slot_same items =
+    then_same (changed_slot capping) (changed_slot capping) (if_passes is_consistent) (if_passes is_consistent) (slot_pieces (cut is_comma_fragment false (changed_items capping items))) (slot_pieces (cut is_comma_fragment false items)) consistent_same
+    (ap (λ (pieces : Pieces). option_map (changed_slot capping) (slot_pieces pieces)) (cut_changed capping is_comma_fragment false items) ∙ slot_pieces_same (cut is_comma_fragment false items))
 
 slots_from_same : (others : List Piece) (first : List Item) → option_map (map (changed_slot capping)) (slots_from (changed_items capping first) (map (changed_piece capping) others)) ≡ option_map (map (changed_slot capping)) (slots_from first others)
 slots_from_same [] [] = refl

@@ -2,9 +2,16 @@
 use Rattle.std.proofs.Common.{◌≡◌, true, false, List, [], ◌∷◌, map, Option, option_map, option_and_then, refl, sym, ap, ◌∙◌}
 use Rattle.dy_tree.specs.declared.token.Token.{Token}
 use Rattle.dy_tree.specs.Fragments.{SeenFragment, one, group}
-use Rattle.dy_rules.specs.Operators.{Guard}
+use Rattle.dy_tree.specs.declared.brackets.Guard.{Guard}
+use Rattle.dy_tree.specs.declared.brackets.Keyword.{Keyword}
+use Rattle.dy_tree.specs.declared.brackets.Keyword.TheVariants as keywords
+use Rattle.dy_tree.specs.declared.brackets.Bracket.{Bracket}
+use Rattle.dy_tree.specs.declared.brackets.Bracket.TheVariants as brackets
+use Rattle.dy_tree.specs.declared.splitters.Splitting.TheVariants as splittings
+use Rattle.dy_tree.specs.declared.splitters.Splitter.{Splitter}
+use Rattle.dy_tree.specs.declared.splitters.Splitter.TheVariants as splitters
 use Rattle.dy_rules.specs.Trees.{Tree, maybe_of, arms_of, ItemTree, body_of, alternatives_of, otherwise, parameters_of}
-use Rattle.dy_rules.specs.Roles.{nothing, branches, Splitter, else_word, elseif_word, Keyword, begin_word, if_word, guard_word, case_word, select_word, Bracket, round, bracket_of, block_word, for_word, method_word, define_word}
+use Rattle.dy_rules.specs.Roles.{bracket_of}
 use Rattle.dy_rules.specs.Cutting.{Head, Item, Piece, Pieces, is_splitter, cut, Front, headed, word_of, MethodFound}
 use Rattle.dy_rules.specs.Bodies.{body_items}
 use Rattle.dy_rules.specs.Choices.{Choices, arms_items}
@@ -33,7 +40,7 @@ tested_by_same : (rest : List Item) (test other : Tree) → capped test ≡ capp
 tested_by_same rest test other e = cc (items_twice rest)
 
 tested_in_same : (bracket : Bracket) (tree other : Option Tree) (rest : List Item) → SameTree tree other → option_map (changed_tested capping) (tested_in bracket tree (changed_items capping rest)) ≡ option_map (changed_tested capping) (tested_in bracket other rest)
-tested_in_same round tree other rest e = map_same capped (changed_tested capping) (tested_by (changed_items capping rest)) (tested_by rest) tree other (tested_by_same rest) e
+tested_in_same brackets.Round tree other rest e = map_same capped (changed_tested capping) (tested_by (changed_items capping rest)) (tested_by rest) tree other (tested_by_same rest) e
 tested_in_same bracket tree other rest e = refl
 
 tested_at_same : (fragment : SeenFragment) (tree other : Option Tree) (rest : List Item) → SameTree tree other
@@ -62,18 +69,18 @@ with_body_same test other e others rest g trees rows f = map_same (changed_other
 
 with_test_same : (others rest : Option Others) → SameOthers others rest → (head more : Tested) → changed_tested capping head ≡ changed_tested capping more → SameOthers (with_test others head) (with_test rest more)
 with_test_same others rest g head more e =
-    then_same (map (changed_item capping)) (changed_others capping) (with_body head.test others) (with_body more.test rest) (body_items branches head.rest) (body_items branches more.rest)
-    (with_body_same head.test more.test (ap (λ (t : Tested). t.test) e) others rest g) (reads_on (map (changed_item capping)) (body_items branches) (body_same branches) head.rest more.rest (ap (λ (t : Tested). t.rest) e))
+    then_same (map (changed_item capping)) (changed_others capping) (with_body head.test others) (with_body more.test rest) (body_items splittings.Branches head.rest) (body_items splittings.Branches more.rest)
+    (with_body_same head.test more.test (ap (λ (t : Tested). t.test) e) others rest g) (reads_on (map (changed_item capping)) (body_items splittings.Branches) (body_same splittings.Branches) head.rest more.rest (ap (λ (t : Tested). t.rest) e))
 
 if_last_same : (behind : List Piece) (found other : Option Others) → SameOthers found other → SameOthers (if_last (map (changed_piece capping) behind) found) (if_last behind other)
 if_last_same [] found other e = e
 if_last_same (piece ∷ behind) found other e = refl
 
 other_at_same : (word : Splitter) (items : List Item) (behind : List Piece) (rest more : Option Others) → SameOthers rest more → SameOthers (other_at word (changed_items capping items) (map (changed_piece capping) behind) rest) (other_at word items behind more)
-other_at_same else_word items behind rest more e =
-    if_last_same behind (option_map by_body (body_items branches (changed_items capping items))) (option_map by_body (body_items branches items))
-    (map_same (map (changed_item capping)) (changed_others capping) by_body by_body (body_items branches (changed_items capping items)) (body_items branches items) by_body_same (body_same branches items))
-other_at_same elseif_word items behind rest more e =
+other_at_same splitters.Else items behind rest more e =
+    if_last_same behind (option_map by_body (body_items splittings.Branches (changed_items capping items))) (option_map by_body (body_items splittings.Branches items))
+    (map_same (map (changed_item capping)) (changed_others capping) by_body by_body (body_items splittings.Branches (changed_items capping items)) (body_items splittings.Branches items) by_body_same (body_same splittings.Branches items))
+other_at_same splitters.Elseif items behind rest more e =
     then_same (changed_tested capping) (changed_others capping) (with_test rest) (with_test more) (tested (changed_items capping items)) (tested items) (with_test_same rest more e) (tested_same items)
 other_at_same word items behind rest more e = refl
 
@@ -111,23 +118,23 @@ method_statement_same word method other e =
 
 guarded_same : (guard : Guard) (word : Token) (head other : Tested) → changed_tested capping head ≡ changed_tested capping other → SameTree (guarded_items guard word head) (guarded_items guard word other)
 guarded_same guard word head other e =
-    map_same (map (changed_item capping)) capped (guarded_of guard word head.test) (guarded_of guard word other.test) (body_items nothing head.rest) (body_items nothing other.rest) (guarded_of_same guard word head.test other.test (ap (λ (t : Tested). t.test) e))
-    (reads_on (map (changed_item capping)) (body_items nothing) (body_same nothing) head.rest other.rest (ap (λ (t : Tested). t.rest) e))
+    map_same (map (changed_item capping)) capped (guarded_of guard word head.test) (guarded_of guard word other.test) (body_items splittings.Nothing head.rest) (body_items splittings.Nothing other.rest) (guarded_of_same guard word head.test other.test (ap (λ (t : Tested). t.test) e))
+    (reads_on (map (changed_item capping)) (body_items splittings.Nothing) (body_same splittings.Nothing) head.rest other.rest (ap (λ (t : Tested). t.rest) e))
 
 if_body_same : (word : Token) (test other : Tree) → capped test ≡ capped other → (others rest : Option Others) → SameOthers others rest → (trees rows : List ItemTree) → SameTrees trees rows → SameTree (if_body word test others trees) (if_body word other rest rows)
 if_body_same word test other e others rest g trees rows f = map_same (changed_others capping) capped (if_of word test trees) (if_of word other rows) others rest (if_of_same word test other e trees rows f) g
 
 if_pieces_same : (word : Token) (test other : Tree) → capped test ≡ capped other → (pieces : Pieces) → SameTree (if_pieces word test (changed_pieces capping pieces)) (if_pieces word other pieces)
 if_pieces_same word test other e pieces =
-    then_same (map (changed_item capping)) capped (if_body word test (others_of (map (changed_piece capping) pieces.others))) (if_body word other (others_of pieces.others)) (body_items branches (changed_items capping pieces.first)) (body_items branches pieces.first)
-    (if_body_same word test other e (others_of (map (changed_piece capping) pieces.others)) (others_of pieces.others) (others_same pieces.others)) (body_same branches pieces.first)
+    then_same (map (changed_item capping)) capped (if_body word test (others_of (map (changed_piece capping) pieces.others))) (if_body word other (others_of pieces.others)) (body_items splittings.Branches (changed_items capping pieces.first)) (body_items splittings.Branches pieces.first)
+    (if_body_same word test other e (others_of (map (changed_piece capping) pieces.others)) (others_of pieces.others) (others_same pieces.others)) (body_same splittings.Branches pieces.first)
 
 abbrev if_behind : Token → Tree → List Item → Option Tree
-if_behind word test rest = if_pieces word test (cut (is_splitter branches) false rest)
+if_behind word test rest = if_pieces word test (cut (is_splitter splittings.Branches) false rest)
 
 if_behind_on : (word : Token) (test other : Tree) → capped test ≡ capped other → (rest : List Item) → SameTree (if_behind word test (changed_items capping rest)) (if_behind word other rest)
 if_behind_on word test other e rest =
-    ap (λ (pieces : Pieces). option_map capped (if_pieces word test pieces)) (cut_changed capping (is_splitter branches) false rest) ∙ if_pieces_same word test other e (cut (is_splitter branches) false rest)
+    ap (λ (pieces : Pieces). option_map capped (if_pieces word test pieces)) (cut_changed capping (is_splitter splittings.Branches) false rest) ∙ if_pieces_same word test other e (cut (is_splitter splittings.Branches) false rest)
 
 if_items_same : (word : Token) (head other : Tested) → changed_tested capping head ≡ changed_tested capping other → SameTree (if_items word head) (if_items word other)
 if_items_same word head other e =
@@ -147,12 +154,12 @@ fronts_same : (read : Front → Option Tree) → ((front : Front) → SameTree (
 fronts_same read h items = ap (λ (front : Option Front). option_map capped (option_and_then read front)) (headed_changed capping items) ∙ then_on (changed_front capping) capped read read (headed items) h
 
 pub statement_same : (kind : Keyword) (word : Token) → Reads capped (statement_items kind word)
-statement_same begin_word word items = map_same (map (changed_item capping)) capped (begin_of word) (begin_of word) (body_items nothing (changed_items capping items)) (body_items nothing items) (begin_of_same word) (body_same nothing items)
-statement_same (guard_word guard) word items = then_same (changed_tested capping) capped (guarded_items guard word) (guarded_items guard word) (tested (changed_items capping items)) (tested items) (guarded_same guard word) (tested_same items)
-statement_same if_word word items = then_same (changed_tested capping) capped (if_items word) (if_items word) (tested (changed_items capping items)) (tested items) (if_items_same word) (tested_same items)
-statement_same case_word word items = map_same (changed_choices capping) capped (case_of word) (case_of word) (arms_items true (changed_items capping items)) (arms_items true items) (case_of_same word) (arms_same true items)
-statement_same select_word word items = fronts_same (select_items word) (select_same word) items
-statement_same block_word word items = fronts_same (block_items word) (block_same word) items
-statement_same for_word word items = fronts_same (for_statement word) (for_same word) items
-statement_same define_word word items = refl
-statement_same method_word word items = map_same (changed_method_found capping) capped (method_statement word) (method_statement word) (method_items (changed_items capping items)) (method_items items) (method_statement_same word) (method_same items)
+statement_same keywords.Begin word items = map_same (map (changed_item capping)) capped (begin_of word) (begin_of word) (body_items splittings.Nothing (changed_items capping items)) (body_items splittings.Nothing items) (begin_of_same word) (body_same splittings.Nothing items)
+statement_same (keywords.Guard guard) word items = then_same (changed_tested capping) capped (guarded_items guard word) (guarded_items guard word) (tested (changed_items capping items)) (tested items) (guarded_same guard word) (tested_same items)
+statement_same keywords.If word items = then_same (changed_tested capping) capped (if_items word) (if_items word) (tested (changed_items capping items)) (tested items) (if_items_same word) (tested_same items)
+statement_same keywords.Case word items = map_same (changed_choices capping) capped (case_of word) (case_of word) (arms_items true (changed_items capping items)) (arms_items true items) (case_of_same word) (arms_same true items)
+statement_same keywords.Select word items = fronts_same (select_items word) (select_same word) items
+statement_same keywords.Block word items = fronts_same (block_items word) (block_same word) items
+statement_same keywords.For word items = fronts_same (for_statement word) (for_same word) items
+statement_same keywords.Define word items = refl
+statement_same keywords.Method word items = map_same (changed_method_found capping) capped (method_statement word) (method_statement word) (method_items (changed_items capping items)) (method_items items) (method_statement_same word) (method_same items)

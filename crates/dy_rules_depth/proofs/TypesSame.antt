@@ -2,9 +2,15 @@
 use Rattle.std.proofs.Common.{◌≡◌, ℕ, Bool, true, false, List, [], ◌∷◌, codes, map, Option, Some, None, option_map, refl, sym, ap, ◌∙◌}
 use Rattle.dy_tree.specs.declared.token.Token.{Token}
 use Rattle.dy_tree.specs.Fragments.{SeenFragment, one, group, SeenFragments, no_fragment, fragment_and}
-use Rattle.dy_rules.specs.Roles.{Role, named, role_of, Bracket, round, bracket_of}
+use Rattle.dy_tree.specs.declared.roles.Role.{Role}
+use Rattle.dy_tree.specs.declared.roles.Role.TheVariants as roles
+use Rattle.dy_tree.specs.declared.brackets.Bracket.{Bracket}
+use Rattle.dy_tree.specs.declared.brackets.Bracket.TheVariants as brackets
+use Rattle.dy_tree.specs.declared.type_words.TypeWord.{TypeWord}
+use Rattle.dy_tree.specs.declared.type_words.TypeWord.TheVariants as type_words
+use Rattle.dy_rules.specs.Roles.{role_of, bracket_of}
 use Rattle.dy_rules.specs.Arguments.{is_comma_fragment}
-use Rattle.dy_rules.specs.Types.{TypeTree, named_type, types_of, TypeWord, singleton_word, union_word, limited_word, no_type_word, type_word, VariableTree, TargetTree, one_target}
+use Rattle.dy_rules.specs.Types.{TypeTree, named_type, types_of, type_word, VariableTree, TargetTree, one_target}
 use Rattle.dy_rules.specs.Cutting.{Limits, Ending, Found, Item, Pieces, cut}
 use Rattle.dy_rules.specs.TypeReading.{bound_in, bound_items, limits_pieces, limits_items, TypeFront, in_front, name_front, union_of, limited_of, form_type, word_front, group_front, front_behind, type_from, type_named, type_at, type_front, if_whole, whole_type, type_items, types_items, VariableFront, untyped_front, typed_front, is_colons, variable_if, variable_from, variable_named, variable_at, variable_front, whole_variable, variable_items, marked, name_in, name_items, bind_items, several_of, target_in, target_group, target_one, target_if, target_items}
 use Rattle.dy_rules_depth.specs.Changes.{changed_variable, changed_target}
@@ -40,10 +46,10 @@ union_same word types others e = same_union word (types_of types) (types_of othe
 
 pub form_type_same : (form : TypeWord) (word : Token) (inner : SeenFragments) (found other : Found) → SameTypes found.types other.types → found.limits ≡ other.limits
     → option_map capped_type (form_type form word inner found) ≡ option_map capped_type (form_type form word inner other)
-form_type_same singleton_word word inner found other e f = refl
-form_type_same union_word word inner found other e f = map_same (map capped_type) capped_type (union_of word) (union_of word) found.types other.types (union_same word) e
-form_type_same limited_word word inner found other e f = ap (λ (limits : Option Limits). option_map capped_type (option_map (limited_of word) limits)) f
-form_type_same no_type_word word inner found other e f = refl
+form_type_same type_words.Singleton word inner found other e f = refl
+form_type_same type_words.Union word inner found other e f = map_same (map capped_type) capped_type (union_of word) (union_of word) found.types other.types (union_same word) e
+form_type_same type_words.Limited word inner found other e f = ap (λ (limits : Option Limits). option_map capped_type (option_map (limited_of word) limits)) f
+form_type_same type_words.Absent word inner found other e f = refl
 
 abbrev SameTypeFront : Option TypeFront → Option TypeFront → Type 0
 SameTypeFront front other = option_map (changed_type_front capping) front ≡ option_map (changed_type_front capping) other
@@ -61,13 +67,13 @@ form_front_same form word inner item rest =
     (form_type_same form word inner (changed_found capping item.found) item.found (types_twice item.found.types) refl)
 
 word_front_same : (form : TypeWord) (word : Token) (inner : SeenFragments) (item : Item) (rest : List Item) → SameTypeFront (word_front form word inner (changed_item_of capping item) (changed_items capping rest)) (word_front form word inner item rest)
-word_front_same no_type_word word inner item rest = name_front_same word (item ∷ rest)
-word_front_same singleton_word word inner item rest = form_front_same singleton_word word inner item rest
-word_front_same union_word word inner item rest = form_front_same union_word word inner item rest
-word_front_same limited_word word inner item rest = form_front_same limited_word word inner item rest
+word_front_same type_words.Absent word inner item rest = name_front_same word (item ∷ rest)
+word_front_same type_words.Singleton word inner item rest = form_front_same type_words.Singleton word inner item rest
+word_front_same type_words.Union word inner item rest = form_front_same type_words.Union word inner item rest
+word_front_same type_words.Limited word inner item rest = form_front_same type_words.Limited word inner item rest
 
 group_front_same : (bracket : Bracket) (word : Token) (inner : SeenFragments) (item : Item) (rest : List Item) → SameTypeFront (group_front bracket word inner (changed_item_of capping item) (changed_items capping rest)) (group_front bracket word inner item rest)
-group_front_same round word inner item rest = word_front_same (type_word word) word inner item rest
+group_front_same brackets.Round word inner item rest = word_front_same (type_word word) word inner item rest
 group_front_same bracket word inner item rest = name_front_same word (item ∷ rest)
 
 front_behind_same : (word : Token) (fragment : SeenFragment) (item : Item) (rest : List Item) → SameTypeFront (front_behind word fragment (changed_item_of capping item) (changed_items capping rest)) (front_behind word fragment item rest)
@@ -79,7 +85,7 @@ type_from_same word [] = refl
 type_from_same word (item ∷ rest) = front_behind_same word item.fragment item rest
 
 type_named_same : (role : Role) (word : Token) (items : List Item) → SameTypeFront (type_named role word (changed_items capping items)) (type_named role word items)
-type_named_same named word items = type_from_same word items
+type_named_same roles.Named word items = type_from_same word items
 type_named_same role word items = refl
 
 type_at_same : (fragment : SeenFragment) (rest : List Item) → SameTypeFront (type_at fragment (changed_items capping rest)) (type_at fragment rest)
@@ -122,7 +128,7 @@ variable_from_same token [] = refl
 variable_from_same token (item ∷ rest) = variable_if_same (is_colons item.fragment) token item rest
 
 variable_named_same : (role : Role) (token : Token) (items : List Item) → SameVariableFront (variable_named role token (changed_items capping items)) (variable_named role token items)
-variable_named_same named token items = variable_from_same token items
+variable_named_same roles.Named token items = variable_from_same token items
 variable_named_same role token items = refl
 
 variable_at_same : (fragment : SeenFragment) (rest : List Item) → SameVariableFront (variable_at fragment (changed_items capping rest)) (variable_at fragment rest)
@@ -178,8 +184,8 @@ pub several_same : (bound other : Ending VariableTree Token) → changed_bound c
 several_same bound other e = ap several_of e
 
 pub target_in_same : (bracket : Bracket) (inner : SeenFragments) (bound other : Option (Ending VariableTree Token)) → SameBound bound other → SameTarget (target_in bracket inner bound) (target_in bracket inner other)
-target_in_same round no_fragment bound other e = refl
-target_in_same round (fragment_and first rest) bound other e = map_same (changed_bound capping) (changed_target capping) several_of several_of bound other several_same e
+target_in_same brackets.Round no_fragment bound other e = refl
+target_in_same brackets.Round (fragment_and first rest) bound other e = map_same (changed_bound capping) (changed_target capping) several_of several_of bound other several_same e
 target_in_same bracket inner bound other e = refl
 
 target_group_same : (fragment : SeenFragment) (found : Found) → SameTarget (target_group fragment (changed_found capping found)) (target_group fragment found)

@@ -1,7 +1,7 @@
 -- The form that items stand for, with how it begins.
 use Rattle.std.specs.Prelude.{List, Option, option_map, option_and_then}
 use Rattle.dy_tree.specs.Fragments.{SeenFragment}
-use Rattle.dy_rules.specs.Roles.{nothing}
+use Rattle.dy_tree.specs.declared.splitters.Splitting.TheVariants as splittings
 use Rattle.dy_rules.specs.Cutting.{Item}
 use Rattle.dy_rules.specs.Reading.{expression_items}
 use Rattle.dy_rules.specs.Fragments.{items_in, items_of}
@@ -16,6 +16,6 @@ items_at (group_front define inner) fragments = items_in inner
 items_at (flat_front define rest) fragments = items_of rest
 
 abbrev pub form_items : FormFront → List Item → Option FormTree
-form_items expression_front items = option_map expression_of_form (expression_items nothing items)
+form_items expression_front items = option_map expression_of_form (expression_items splittings.Nothing items)
 form_items (group_front define inner) items = option_and_then (ended_definition define) (words_front is_definition_word items)
 form_items (flat_front define rest) items = option_and_then (flat_definition define) (words_front is_definition_word items)

@@ -3,7 +3,7 @@
 ghost use Rattle.std.specs.Prelude.{◌≡◌, ◌≤◌, nat_lt, List, map, Option, Some, option_map};
 ghost use Rattle.dy_tree.specs.declared.token.Token.{Token};
 ghost use Rattle.dy_tree.specs.Fragments.{SeenFragment, SeenFragments};
-ghost use Rattle.dy_rules.specs.Roles.{Splitting};
+ghost use Rattle.dy_tree.specs.declared.splitters.Splitting.{Splitting};
 ghost use Rattle.dy_rules.specs.Cutting.{Item};
 ghost use Rattle.dy_rules.specs.Reading.{expression_items, passed_items};
 ghost use Rattle.dy_rules.specs.TypeReading.{type_items, target_items};

@@ -1,20 +1,21 @@
 -- What a core is as an expression or a form that runs (own).
 use Rattle.std.specs.Prelude.{ℕ, ℤ, Bool, true, false, ◌||◌, List, [], ◌∷◌, length, codes, Option, Some, None, if◌then◌else◌}
 use Rattle.dy_tree.specs.declared.token.Token.{Token}
-use Rattle.dy_term.specs.Literals.{Constant, int, str}
+use Rattle.dy_tree.specs.Spelling.{is_spelled}
+use Rattle.dy_term.specs.declared.literal.Literal.{Literal, Int, Str}
 use Rattle.dy_term.specs.Types.{CoreType}
 use Rattle.dy_term.specs.Drafts as core
 use Rattle.dy_term.specs.Drafts.{Core, Cores, Choice, CoreItems, CoreLambda, lambda}
 use Rattle.dy_term.specs.Rows.{CoreMethod, CoreDraft, method_row, top_term, run}
-use Rattle.dy_drafts.specs.Shapes.{reads}
+use Rattle.dy_drafts.specs.Shapes.{has}
 use Rattle.dy_subset.specs.declared.sum.Operator.{Operator}
 use Rattle.dy_subset.specs.Forms.{SumTree, number, variable, operation, called, choice, TopTree, print, method}
 use Rattle.dy_subset.specs.Operators.{operator_of, is_built_in}
 use Rattle.dy_subset.specs.Directives.{has_directives}
 use Rattle.dy_subset.specs.Comparisons.{is_placed}
 
-abbrev pub number_in : Constant → Option SumTree
-number_in (int value) = Some (number value)
+abbrev pub number_in : Literal → Option SumTree
+number_in (Int value) = Some (number value)
 number_in _ = None
 
 abbrev pub name_in : Core → Option Token
@@ -89,8 +90,8 @@ all_in (term ∷ terms) = with_first (sum_in term) (all_in terms)
 
 -- ---- forms
 
-abbrev pub string_in : Constant → Option (List ℕ)
-string_in (str text) = Some text
+abbrev pub string_in : Literal → Option (List ℕ)
+string_in (Str text) = Some text
 string_in _ = None
 
 abbrev pub text_in : Core → Option (List ℕ)
@@ -108,7 +109,7 @@ print_of (first ∷ rest) = printed (text_in first) (all_in rest)
 
 abbrev pub names_format_out : Option Token → Bool
 names_format_out None = false
-names_format_out (Some token) = reads (codes "format-out") token
+names_format_out (Some token) = is_spelled (codes "format-out") token
 
 -- terms in a row, as a list
 abbrev pub terms_in : Cores → List Core
@@ -134,7 +135,7 @@ defined_by name (lambda params defaults term results) = defined name (required_i
 
 -- a method of one parameter whose body is one expression
 abbrev pub method_in : CoreMethod → Option TopTree
-method_in found = if found.is_sealed then None else defined_by found.generic found.code
+method_in found = if has (codes "sealed") found.adjectives then None else defined_by found.generic found.code
 
 abbrev pub form_in : CoreDraft → Option TopTree
 form_in (top_term (run term)) = print_in term

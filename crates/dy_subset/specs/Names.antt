@@ -7,6 +7,7 @@ use Rattle.dy_base.specs.Tables.{NameMap}
 use Rattle.dy_base.specs.declared.kind.Kind.TheVariants.{Syntax}
 use Rattle.dy_base.specs.declared.fault.Place.{Place}
 use Rattle.dy_tree.specs.declared.token.Token.{Token}
+use Rattle.dy_tree.specs.Spelling.{is_spelled}
 use Rattle.dy_subset.specs.declared.names.Finding.{Finding}
 use Rattle.dy_subset.specs.declared.names.Finding.TheVariants.{Fine, Unbound, Unfit}
 use Rattle.dy_subset.specs.Forms.{SumTree, number, variable, operation, called, choice, TopTree, print, method, Reading, fits, faulty, Row}
@@ -69,7 +70,7 @@ is_among names name = list_any (λ other. bytes_eq name other) names
 
 abbrev pub is_parameter : Option Token → Token → Bool
 is_parameter None token = false
-is_parameter (Some parameter) token = bytes_eq parameter.text token.text
+is_parameter (Some parameter) token = is_spelled parameter.text token
 
 -- of a form that begins here
 abbrev pub unfit_if : Bool → Place → Finding

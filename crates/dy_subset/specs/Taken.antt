@@ -4,20 +4,20 @@ use Rattle.dy_tree.specs.declared.token.Token.{Token}
 use Rattle.dy_tree.specs.declared.token.TokenKind.{TokenKind}
 use Rattle.dy_tree.specs.declared.token.TokenKind.TheVariants.{Name, Escaped, Int, Str, Operator, Punctuation}
 use Rattle.dy_tree.specs.Fragments.{SeenFragment, SeenFragments, one, group, no_fragment, fragment_and, pack}
-use Rattle.dy_drafts.specs.Shapes.{reads}
+use Rattle.dy_tree.specs.Spelling.{is_spelled}
 
 -- a word that begins a statement or a declaration that does not run yet
 abbrev pub is_later_word : Token → Bool
 is_later_word token =
-    reads (codes "begin") token || reads (codes "block") token || reads (codes "case") token || reads (codes "for") token || reads (codes "let") token
-    || reads (codes "local") token || reads (codes "select") token || reads (codes "unless") token || reads (codes "until") token || reads (codes "while") token
+    is_spelled (codes "begin") token || is_spelled (codes "block") token || is_spelled (codes "case") token || is_spelled (codes "for") token || is_spelled (codes "let") token
+    || is_spelled (codes "local") token || is_spelled (codes "select") token || is_spelled (codes "unless") token || is_spelled (codes "until") token || is_spelled (codes "while") token
 
 abbrev pub is_taken_operator : Token → Bool
 is_taken_operator token =
-    reads (codes "+") token || reads (codes "-") token || reads (codes "*") token || reads (codes "<") token || reads (codes "==") token
+    is_spelled (codes "+") token || is_spelled (codes "-") token || is_spelled (codes "*") token || is_spelled (codes "<") token || is_spelled (codes "==") token
 
 abbrev pub is_taken_mark : Token → Bool
-is_taken_mark token = reads (codes "(") token || reads (codes ")") token || reads (codes ",") token || reads (codes ";") token
+is_taken_mark token = is_spelled (codes "(") token || is_spelled (codes ")") token || is_spelled (codes ",") token || is_spelled (codes ";") token
 
 abbrev pub is_taken_as : TokenKind → Token → Bool
 is_taken_as Name token = not (is_later_word token)

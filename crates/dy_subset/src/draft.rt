@@ -2,7 +2,6 @@
 
 ghost use Rattle.std.specs.Prelude.{◌≡◌, map, option_map, IfOk};
 ghost use Rattle.std.specs.Option.{option_copied};
-ghost use Rattle.dy_term.specs.Literals.{seen_literal};
 ghost use Rattle.dy_term.specs.Drafts.{seen_term, seen_pair, seen_item, cores_of, items_of};
 ghost use Rattle.dy_subset.specs.Forms.{seen_sum, seen_branch, seen_token};
 ghost use Rattle.dy_subset.specs.Cores.{number_in, name_in, variable_by, call_by, operation_by, branched, chosen, sum_in, called_in, branch_in, body_in, only_in, all_in};
@@ -15,7 +14,7 @@ use std::alloc::{AllocError, Global};
 
 /// The number that a literal is.
 fn number_of(literal: &Literal) -> Option<Sum>
-    ensures { option_map seen_sum result ≡ number_in (seen_literal literal.now) }
+    ensures { option_map seen_sum result ≡ number_in literal.now }
 {
     match literal {
         Literal::Int(value) => Some(Sum::Number(*value)),

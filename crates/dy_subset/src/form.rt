@@ -1,7 +1,6 @@
 //! Forms of the core that run today.
 
 ghost use Rattle.std.specs.Prelude.{◌≡◌, map, option_map, IfOk};
-ghost use Rattle.dy_term.specs.Literals.{seen_literal};
 ghost use Rattle.dy_term.specs.Drafts.{seen_term, seen_lambda};
 ghost use Rattle.dy_term.specs.Types.{seen_typed};
 ghost use Rattle.dy_term.specs.Rows.{seen_draft, seen_definition};
@@ -14,14 +13,14 @@ use crate::draft::{body_of, name_of, sums_of};
 use crate::operator::is_built_in;
 use crate::sum::{Sum, Top};
 use dy_base::Text;
-use dy_drafts::reads;
+use dy_drafts::has;
 use dy_term::{Draft, DraftMethod, DraftTerm, DraftTop, DraftType, Literal};
 use dy_tree::Token;
 use std::alloc::{AllocError, Global};
 
 /// The text of a string literal.
 fn string_of(alloc: Global, literal: &Literal) -> Result<Option<Text>, AllocError>
-    ensures { IfOk result (λ text. text ≡ string_in (seen_literal literal.now)) }
+    ensures { IfOk result (λ text. text ≡ string_in literal.now) }
 {
     match literal {
         Literal::Str(text) => Ok(Some(Text::of(alloc, text.bytes())?)),
@@ -74,7 +73,7 @@ fn is_format_out(term: &DraftTerm) -> bool
     ensures { result ≡ names_format_out (name_in (seen_term term.now)) }
 {
     match name_of(term) {
-        Some(token) => reads(b"format-out", token),
+        Some(token) => token.is_spelled(b"format-out"),
         None => false,
     }
 }
@@ -131,7 +130,7 @@ fn defined(
 fn method_of(alloc: Global, method: &DraftMethod) -> Result<Option<Top>, AllocError>
     ensures { IfOk result (λ top. option_map seen_top top ≡ method_in (seen_definition method.now)) }
 {
-    if method.is_sealed {
+    if has(b"sealed", &method.adjectives) {
         return Ok(None);
     }
     let body = body_of(alloc, &method.code.body)?;

@@ -41,7 +41,7 @@ fn is_parameter(parameter: Option<&Token>, token: &Token) -> bool
     ensures { result ≡ is_parameter (option_map seen_token parameter.entry) token.now }
 {
     match parameter {
-        Some(parameter) => parameter.text.bytes() == token.text.bytes(),
+        Some(parameter) => token.is_spelled(parameter.text.bytes()),
         None => false,
     }
 }

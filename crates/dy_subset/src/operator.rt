@@ -4,22 +4,21 @@ ghost use Rattle.std.specs.Prelude.{◌≡◌};
 ghost use Rattle.dy_subset.specs.Operators.{operator_of, is_built_in, is_arithmetic, is_comparison};
 
 use crate::sum::Operator;
-use dy_drafts::reads;
 use dy_tree::Token;
 
 /// The operator that calls a function of this name.
 pub(crate) fn operator_of(token: &Token) -> Option<Operator>
     ensures { result ≡ operator_of token.now }
 {
-    if reads(b"+", token) {
+    if token.is_spelled(b"+") {
         Some(Operator::Add)
-    } else if reads(b"-", token) {
+    } else if token.is_spelled(b"-") {
         Some(Operator::Subtract)
-    } else if reads(b"*", token) {
+    } else if token.is_spelled(b"*") {
         Some(Operator::Multiply)
-    } else if reads(b"<", token) {
+    } else if token.is_spelled(b"<") {
         Some(Operator::Less)
-    } else if reads(b"==", token) {
+    } else if token.is_spelled(b"==") {
         Some(Operator::Equal)
     } else {
         None
@@ -30,7 +29,7 @@ pub(crate) fn operator_of(token: &Token) -> Option<Operator>
 pub(crate) fn is_built_in(token: &Token) -> bool
     ensures { result ≡ is_built_in token.now }
 {
-    operator_of(token).is_some() || reads(b"format-out", token)
+    operator_of(token).is_some() || token.is_spelled(b"format-out")
 }
 
 /// Whether an operator gives a number.

@@ -4,39 +4,41 @@ ghost use Rattle.std.specs.Prelude.{◌≡◌};
 ghost use Rattle.dy_tree.specs.Fragments.{seen_fragment, seen_fragments};
 ghost use Rattle.dy_subset.specs.Taken.{is_later_word, is_taken_operator, is_taken_mark, is_taken, fragment_taken, are_taken};
 
-use dy_drafts::reads;
 use dy_tree::{Fragment, Token, TokenKind};
 
 /// Whether a word begins a statement or a declaration that does not run yet.
 fn is_later_word(token: &Token) -> bool
     ensures { result ≡ is_later_word token.now }
 {
-    reads(b"begin", token)
-        || reads(b"block", token)
-        || reads(b"case", token)
-        || reads(b"for", token)
-        || reads(b"let", token)
-        || reads(b"local", token)
-        || reads(b"select", token)
-        || reads(b"unless", token)
-        || reads(b"until", token)
-        || reads(b"while", token)
+    token.is_spelled(b"begin")
+        || token.is_spelled(b"block")
+        || token.is_spelled(b"case")
+        || token.is_spelled(b"for")
+        || token.is_spelled(b"let")
+        || token.is_spelled(b"local")
+        || token.is_spelled(b"select")
+        || token.is_spelled(b"unless")
+        || token.is_spelled(b"until")
+        || token.is_spelled(b"while")
 }
 
 fn is_taken_operator(token: &Token) -> bool
     ensures { result ≡ is_taken_operator token.now }
 {
-    reads(b"+", token)
-        || reads(b"-", token)
-        || reads(b"*", token)
-        || reads(b"<", token)
-        || reads(b"==", token)
+    token.is_spelled(b"+")
+        || token.is_spelled(b"-")
+        || token.is_spelled(b"*")
+        || token.is_spelled(b"<")
+        || token.is_spelled(b"==")
 }
 
 fn is_taken_mark(token: &Token) -> bool
     ensures { result ≡ is_taken_mark token.now }
 {
-    reads(b"(", token) || reads(b")", token) || reads(b",", token) || reads(b";", token)
+    token.is_spelled(b"(")
+        || token.is_spelled(b")")
+        || token.is_spelled(b",")
+        || token.is_spelled(b";")
 }
 
 /// Whether a form that runs may have this token.

@@ -1,24 +1,21 @@
 -- Types that are written as calls, in terms of the lists that these hold.
-use Rattle.std.proofs.Common.{◌≡◌, List, [], ◌∷◌, map, refl, ap, ◌∙◌, rules}
+use Rattle.std.proofs.Common.{◌≡◌, ◌∷◌, ◌∙◌, List, [], map, refl, ap, rules}
 use Rattle.std.specs.Prelude.{Some, None}
 use Rattle.std.specs.Global.{Vec, Box}
 use Rattle.dy_tree.specs.declared.token.Token.{Token}
 use Rattle.dy_tree.specs.declared.expression.Argument.{Argument}
 use Rattle.dy_tree.specs.declared.expression.Argument.TheViews.{the_lemmas}
-use Rattle.dy_tree.specs.declared.expression.Expression.{Expression, Row_of-Argument, end_of-Argument, more_of-Argument, items-the_row-Argument}
+use Rattle.dy_tree.specs.declared.expression.Expression.{Expression}
 use Rattle.dy_tree.specs.declared.expression.Expression.TheVariants.{Call}
 use Rattle.dy_rules.specs.Trees as source
 use Rattle.dy_rules.specs.Trees.{Tree, Arguments, arguments_of}
-use Rattle.dy_rules.specs.SeenForms.{seen_tree, seen_arguments, seen_argument}
+use Rattle.dy_rules.specs.SeenForms.{seen_tree, seen_argument}
+use Rattle.dy_rules.proofs.Held.{inner_arguments}
 use Rattle.dy_desugar.specs.Table.{name_in}
 use Rattle.dy_surface.specs.TypeConstants.{form_type, listed, type_in, types_in}
 
-arguments_row : {m : _} (row : Row_of-Argument m) → seen_arguments row ≡ arguments_of (map seen_argument (items-the_row-Argument m row))
-arguments_row end_of-Argument = refl
-arguments_row (more_of-Argument first rest) = ap (λ (others : Arguments). source.argument_and (seen_argument first) others) (arguments_row rest)
-
 seen_call : (function : Box Expression) (arguments : Vec Argument) → seen_tree (Call function arguments) ≡ source.call (seen_tree function.value) (arguments_of (map seen_argument arguments.items))
-seen_call function arguments = search (rules, the_lemmas, arguments_row)
+seen_call function arguments = search (rules, the_lemmas, inner_arguments)
 
 listed_in : (arguments : List source.Argument) → listed (arguments_of arguments) ≡ arguments
 listed_in [] = refl

@@ -1,4 +1,5 @@
 pub mod Calls
 pub mod Fronts
 pub mod Lambdas
-pub mod Steps
+pub mod Statements
+mod Steps

@@ -2,6 +2,7 @@
 use Rattle.std.specs.Prelude.{ℕ, Bool, true, false, List, [], ◌∷◌, ◌++◌, ◌||◌, map, length, codes, Option, Some, None, if◌then◌else◌}
 use Rattle.std.specs.Option.{option_map}
 use Rattle.dy_tree.specs.declared.token.Token.{Token}
+use Rattle.dy_tree.specs.Spelling.{is_spelled}
 use Rattle.dy_rules.specs.Types.{TypeTree, TargetTree, one_target, several, VariableTree}
 use Rattle.dy_rules.specs.Trees.{Tree, MaybeTree, no_tree, some_tree, Parameters, parameters, Body}
 use Rattle.dy_rules.specs.Forms.{SlotOption, init_keyword, required_init_keyword, init_value, init_function, setter, SlotTree, FormTree, expression_form, class_form, constant_form, variable_form, generic_form, method_form, function_form, domain_form}
@@ -10,15 +11,10 @@ use Rattle.dy_term.specs.declared.rows.SlotKind.TheVariants.{Instance, Shared, E
 use Rattle.dy_term.specs.Types.{CoreType, object}
 use Rattle.dy_term.specs.Drafts.{Core}
 use Rattle.dy_term.specs.Rows.{CoreInit, each, calling, CoreSlot, CoreTop, init, run, CoreDraft, class_row, generic_row, method_row, domain_row, variable_row, top_term, function, type_constant}
-use Rattle.dy_drafts.specs.Shapes.{reads, name_at, type_of, declared_or, declared_of, typed_of}
+use Rattle.dy_drafts.specs.Shapes.{has, name_at, type_of, declared_or, declared_of, typed_of}
 use Rattle.dy_drafts.specs.Parts.{setter_at, with_rest}
 use Rattle.dy_desugar.specs.Table.{core_of, lambda_of, params_of, returned_of}
 use Rattle.dy_surface.specs.TypeConstants.{constant_type}
-
--- whether a definition has an adjective
-abbrev pub has : List ℕ → List Token → Bool
-has text [] = false
-has text (word ∷ words) = reads text word || has text words
 
 -- where a slot's value stands
 abbrev pub kind_of : List Token → SlotKind
@@ -32,7 +28,7 @@ written_setter (_ ∷ options) = written_setter options
 
 abbrev pub setter_by : Token → Option Token → Option Token
 setter_by name None = Some (setter_at name)
-setter_by name (Some token) = if reads (codes "#f") token then None else Some token
+setter_by name (Some token) = if is_spelled (codes "#f") token then None else Some token
 
 -- A constant slot has no setter, nor has one with `setter: #f`; the name behind `setter:` stands in place of the usual one.
 abbrev pub setter_of : List Token → Token → List SlotOption → Option Token
@@ -89,10 +85,10 @@ constant_of (several variables rest) tree = top_term (initial true (several vari
 
 abbrev pub class_of : List Token → Token → List Token → List SlotTree → CoreDraft
 class_of words name superclasses slots =
-    class_row (record { name = name; supers = superclasses; is_open = has (codes "open") words; is_abstract = has (codes "abstract") words; is_primary = has (codes "primary") words; slots = map slot_of slots })
+    class_row (record { adjectives = words; name = name; supers = superclasses; slots = map slot_of slots })
 
 abbrev pub generic_of : List Token → Token → Parameters → CoreDraft
-generic_of words name row = generic_row (record { name = name; is_open = has (codes "open") words; params = params_of row; results = returned_of row })
+generic_of words name row = generic_row (record { adjectives = words; name = name; params = params_of row; results = returned_of row })
 
 -- the name of the next method where none is written, with the origin of the word `method`
 abbrev pub next_of : Token → Option Token → Option Token
@@ -104,7 +100,7 @@ next_in (parameters required next rest keys results) = next
 
 abbrev pub method_of : List Token → Token → Token → Parameters → Body → CoreDraft
 method_of words word name row body =
-    method_row (record { generic = name; is_sealed = has (codes "sealed") words; next = next_of word (next_in row); code = lambda_of row body })
+    method_row (record { adjectives = words; generic = name; next = next_of word (next_in row); code = lambda_of row body })
 
 -- what a form is in the core
 abbrev pub draft_of : FormTree → CoreDraft
@@ -114,5 +110,5 @@ draft_of (constant_form define target value) = constant_of target value
 draft_of (variable_form define target value) = top_term (initial false target (core_of value))
 draft_of (generic_form define words name row) = generic_of words name row
 draft_of (method_form define words word name row body) = method_of words word name row body
-draft_of (function_form define words name row body) = variable_row (function name (lambda_of row body))
+draft_of (function_form define words name row body) = variable_row (function words name (lambda_of row body))
 draft_of (domain_form define name types) = domain_row (record { generic = name; types = map type_of types })

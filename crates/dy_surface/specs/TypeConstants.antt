@@ -1,34 +1,20 @@
 -- Expressions that are written as types are, and so make their constant stand for a type (own; the forms of DRM 4, "Types").
-use Rattle.std.specs.Prelude.{ℕ, ℤ, Bool, true, false, List, [], ◌∷◌, codes, Option, Some, None, ◌&&◌, if◌then◌else◌}
+use Rattle.std.specs.Prelude.{ℕ, ℤ, Bool, false, List, [], ◌∷◌, codes, Option, Some, None, if◌then◌else◌}
 use Rattle.dy_tree.specs.declared.token.Token.{Token}
-use Rattle.dy_tree.specs.declared.token.TokenKind.{TokenKind}
-use Rattle.dy_tree.specs.declared.token.TokenKind.TheVariants as kinds
 use Rattle.dy_tree.specs.declared.types.LiteralForm.TheVariants as forms
-use Rattle.dy_rules.specs.ConstantTrees.{Constants, no_constant, Tail, no_tail}
+use Rattle.dy_tree.specs.Spelling.{is_spelled, is_word}
+use Rattle.dy_rules.specs.ConstantTrees.{is_nil}
 use Rattle.dy_rules.specs.Trees as source
 use Rattle.dy_rules.specs.Trees.{Tree, Arguments, Argument}
-use Rattle.dy_term.specs.Literals as constants
+use Rattle.dy_term.specs.declared.literal.Literal as constants
 use Rattle.dy_term.specs.Types.{CoreType, named, single, single_name, union, range, types_of}
-use Rattle.dy_drafts.specs.Shapes.{reads, integer_of, literal_of, least, greatest}
+use Rattle.dy_drafts.specs.Shapes.{integer_of, literal_of, least, greatest}
 use Rattle.dy_desugar.specs.Table.{name_in}
-
-abbrev pub is_plain : TokenKind → Bool
-is_plain kinds.Name = true
-is_plain _ = false
-
--- whether a token is this word. An escaped name is no word.
-abbrev pub is_word : List ℕ → Token → Bool
-is_word text token = is_plain token.kind && reads text token
-
--- whether a list is `#()`
-abbrev pub is_nil : Constants → Tail → Bool
-is_nil no_constant no_tail = true
-is_nil _ _ = false
 
 -- `singleton(value)`: of a literal, of `#()`, or of the class that a name means
 abbrev pub only_value : Token → Tree → Option CoreType
 only_value word (source.literal form) = Some (single (literal_of form))
-only_value word (source.list opener items last) = if is_nil items last then Some (single constants.nil) else None
+only_value word (source.list opener items last) = if is_nil items last then Some (single constants.Nil) else None
 only_value word (source.name token) = Some (single_name word token)
 only_value word _ = None
 
@@ -48,7 +34,7 @@ number_in _ = None
 
 -- the number of the keyword argument with this keyword
 abbrev pub limit_in : List ℕ → Argument → Option ℤ
-limit_in text (source.keyword symbol tree) = if reads text symbol then number_in tree else None
+limit_in text (source.keyword symbol tree) = if is_spelled text symbol then number_in tree else None
 limit_in text (source.value tree) = None
 
 -- from a least to a greatest number, where there is one
@@ -77,7 +63,7 @@ bounded word _ = None
 -- `limited(<integer>, min: number, max: number)`
 abbrev pub reads_integer : Option Token → Bool
 reads_integer None = false
-reads_integer (Some token) = reads (codes "<integer>") token
+reads_integer (Some token) = is_spelled (codes "<integer>") token
 
 abbrev pub is_integer_class : Argument → Bool
 is_integer_class (source.keyword symbol tree) = false

@@ -12,7 +12,7 @@ ghost use Rattle.dy_drafts.specs.Shapes.{type_of, typed_of, declared_of};
 ghost use Rattle.dy_desugar.specs.Table as table;
 ghost use Rattle.dy_surface.specs.Forms as spec;
 
-use crate::slots::{has, slots_of};
+use crate::slots::slots_of;
 use crate::type_constants::constant_type;
 use dy_desugar::{body_of, defaults_of, lambda_from, params_of, returned_of, term_of};
 use dy_drafts::{copy_all, declared_of, name_at, type_of, typed_of, with_rest};
@@ -58,13 +58,16 @@ pub fn to_core(alloc: Global, form: &Form) -> Result<Draft, AllocError>
             ..
         } => method_of(alloc, adjectives, word, name, parameters, body),
         Form::Function {
+            adjectives,
             name,
             parameters,
             body,
             ..
         } => {
+            let adjectives = copy_all(alloc, adjectives)?;
+            let name = name.copy()?;
             let code = lambda_of(alloc, parameters, body)?;
-            Ok(Draft::Variable(DraftVariable::Function(name.copy()?, code)))
+            Ok(Draft::Variable(DraftVariable::Function(adjectives, name, code)))
         }
         Form::Domain { name, types, .. } => {
             let generic = name.copy()?;
@@ -85,11 +88,9 @@ fn class_of(
     ensures { IfOk result (λ draft. seen_draft draft ≡ spec.class_of adjectives.now.items name.now superclasses.now.items (map seen_slot slots.now.items)) }
 {
     Ok(Draft::Class(DraftClass {
+        adjectives: copy_all(alloc, adjectives)?,
         name: name.copy()?,
         supers: copy_all(alloc, superclasses)?,
-        is_open: has(b"open", adjectives),
-        is_abstract: has(b"abstract", adjectives),
-        is_primary: has(b"primary", adjectives),
         slots: slots_of(alloc, slots)?,
     }))
 }
@@ -199,8 +200,8 @@ fn generic_of(
     ensures { IfOk result (λ draft. seen_draft draft ≡ spec.generic_of adjectives.now.items name.now (seen_parameters parameters.now)) }
 {
     Ok(Draft::Generic(DraftGeneric {
+        adjectives: copy_all(alloc, adjectives)?,
         name: name.copy()?,
-        is_open: has(b"open", adjectives),
         params: params_of(alloc, parameters)?,
         results: returned_of(alloc, parameters)?,
     }))
@@ -229,8 +230,8 @@ fn method_of(
     ensures { IfOk result (λ draft. seen_draft draft ≡ spec.method_of adjectives.now.items word.now name.now (seen_parameters parameters.now) (body_of (seen_items body.now.items))) }
 {
     Ok(Draft::Method(DraftMethod {
+        adjectives: copy_all(alloc, adjectives)?,
         generic: name.copy()?,
-        is_sealed: has(b"sealed", adjectives),
         next: next_of(alloc, word, &parameters.next)?,
         code: lambda_of(alloc, parameters, body)?,
     }))

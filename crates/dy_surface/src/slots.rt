@@ -3,25 +3,13 @@
 ghost use Rattle.std.specs.Prelude.{◌≡◌, map, option_map, IfOk};
 ghost use Rattle.dy_rules.specs.SeenForms.{seen_option, seen_initial, seen_slot as slot_tree};
 ghost use Rattle.dy_term.specs.Rows.{seen_slot, seen_init};
-ghost use Rattle.dy_surface.specs.Forms.{has, kind_of, written_setter, setter_of, keyword_of, is_required, written_init, init_of, slot_of};
+ghost use Rattle.dy_surface.specs.Forms.{kind_of, written_setter, setter_of, keyword_of, is_required, written_init, init_of, slot_of};
 
 use dy_desugar::term_of;
-use dy_drafts::{declared_or, reads, setter_at};
+use dy_drafts::{declared_or, has, setter_at};
 use dy_term::{DraftInit, DraftSlot, DraftType, SlotKind};
 use dy_tree::{Expression, Slot, SlotOption, Token};
 use std::alloc::{AllocError, Global};
-
-/// Whether a definition has an adjective.
-pub(crate) fn has(text: &[u8], words: &[Token]) -> bool
-    ensures { result ≡ has text.now words.now }
-{
-    for word in words {
-        if reads(text, word) {
-            return true;
-        }
-    }
-    false
-}
 
 /// Where a slot's value stands.
 fn kind_of(words: &[Token]) -> SlotKind
@@ -60,7 +48,7 @@ fn setter_of(alloc: Global, slot: &Slot) -> Result<Option<Token>, AllocError>
     match written_setter(&slot.options) {
         None => Ok(Some(setter_at(alloc, &slot.name)?)),
         Some(token) => {
-            if reads(b"#f", token) {
+            if token.is_spelled(b"#f") {
                 Ok(None)
             } else {
                 Ok(Some(token.copy()?))

@@ -2,28 +2,21 @@
 
 ghost use Rattle.std.specs.Prelude.{◌≡◌, map, option_map, IfOk};
 ghost use Rattle.dy_term.specs.Types.{seen_type};
-ghost use Rattle.dy_rules.specs.ConstantTrees.{constants_of, tail_of};
+ghost use Rattle.dy_rules.specs.ConstantTrees.{constants_of, is_nil, tail_of};
 ghost use Rattle.dy_rules.specs.SeenTypes.{seen_constant};
 ghost use Rattle.dy_rules.specs.SeenForms.{seen_tree, seen_argument};
 ghost use Rattle.dy_surface.specs.TypeConstants as spec;
-ghost use Rattle.dy_rules.specs.Trees.{arguments_of};
+ghost use Rattle.dy_rules.specs.Trees.{Tree, arguments_of};
 
 use dy_desugar::name_in;
-use dy_drafts::{integer_of, literal_of, reads};
+use dy_drafts::{integer_of, literal_of};
 use dy_term::{DraftType, Literal, union_draft};
-use dy_tree::{Argument, ConstantForm, Expression, LiteralForm, Token, TokenKind};
+use dy_tree::{Argument, ConstantForm, Expression, LiteralForm, Token};
 use std::alloc::{AllocError, Global};
-
-/// Whether a token is this word. An escaped name is no word.
-fn is_word(text: &[u8], token: &Token) -> bool
-    ensures { result ≡ spec.is_word text.now token.now }
-{
-    token.kind == TokenKind::Name && reads(text, token)
-}
 
 /// Whether a list is `#()`.
 fn is_nil(items: &[ConstantForm], tail: &Option<ConstantForm>) -> bool
-    ensures { result ≡ spec.is_nil (constants_of (map seen_constant items.now)) (tail_of (option_map seen_constant tail.now)) }
+    ensures { result ≡ is_nil (constants_of (map seen_constant items.now)) (tail_of (option_map seen_constant tail.now)) }
 {
     match items.split_first() {
         Some(_) => false,
@@ -89,12 +82,22 @@ fn union_type(word: &Token, types: Option<Vec<DraftType>>) -> Result<Option<Draf
     }
 }
 
+/// The number that a literal is, if it is one.
+fn number_of(form: &LiteralForm) -> Option<i64>
+    ensures { result ≡ spec.number_in (Tree.literal form.now) }
+{
+    match form {
+        LiteralForm::Int(form) => Some(integer_of(form)),
+        _ => None,
+    }
+}
+
 /// The number that an expression is, if it is one.
 fn number_in(expression: &Expression) -> Option<i64>
     ensures { result ≡ spec.number_in (seen_tree expression.now) }
 {
     match expression {
-        Expression::Literal(LiteralForm::Int(form)) => Some(integer_of(form)),
+        Expression::Literal(form) => number_of(form),
         _ => None,
     }
 }
@@ -105,7 +108,7 @@ fn limit_in(text: &[u8], argument: &Argument) -> Option<i64>
 {
     match argument {
         Argument::Keyword { keyword, value } => {
-            if reads(text, keyword) {
+            if keyword.is_spelled(text) {
                 number_in(value)
             } else {
                 None
@@ -162,7 +165,7 @@ fn is_integer_class(argument: &Argument) -> bool
     match argument {
         Argument::Keyword { .. } => false,
         Argument::Value(value) => match name_in(value) {
-            Some(token) => reads(b"<integer>", token),
+            Some(token) => token.is_spelled(b"<integer>"),
             None => false,
         },
     }
@@ -197,12 +200,12 @@ fn form_type(
 ) -> Result<Option<DraftType>, AllocError>
     ensures { IfOk result (λ found. option_map seen_type found ≡ spec.form_type word.now (map seen_argument arguments.now.items) (spec.types_in (arguments_of (map seen_argument arguments.now.items)))) }
 {
-    if is_word(b"singleton", word) {
+    if word.is_word(b"singleton") {
         singleton_type(alloc, word, arguments)
-    } else if is_word(b"type-union", word) {
+    } else if word.is_word(b"type-union") {
         let types = types_in(alloc, arguments)?;
         union_type(word, types)
-    } else if is_word(b"limited", word) {
+    } else if word.is_word(b"limited") {
         limited_type(word, arguments)
     } else {
         Ok(None)

@@ -6,9 +6,6 @@ use Rattle.std.specs.declared.boxed.Box.{Box}
 use Rattle.std.specs.declared.alloc.Global.{Global}
 use Rattle.dy_tree.specs.declared.token.Token.{Token}
 use Rattle.dy_term.specs.declared.term.Limit.{Limit}
-use Rattle.dy_term.specs.declared.literal.Literal.{Literal, Held-Literal-List-1, None' as NoTail', Some' as SomeTail', view-Literal-List-1}
-use Rattle.dy_term.specs.declared.literal.Literal.TheViews.{the_lemmas as literal_lemmas}
-use Rattle.dy_term.specs.declared.literal.Literal.TheVariants as literals
 use Rattle.dy_term.specs.declared.draft.DraftType.{DraftType}
 use Rattle.dy_term.specs.declared.draft.DraftType.TheViews.{the_lemmas as type_lemmas}
 use Rattle.dy_term.specs.declared.draft.DraftType.TheVariants as types
@@ -24,20 +21,9 @@ use Rattle.dy_term.specs.declared.draft.DraftForClause.TheVariants as clauses
 use Rattle.dy_term.specs.declared.draft.DraftForClause.TheViews.{the_lemmas}
 use Rattle.dy_term.specs.declared.draft.DraftBlock.{DraftBlock, DraftBlock', out-DraftBlock, Row_of-DraftBlockClause, end_of-DraftBlockClause, more_of-DraftBlockClause, items-the_row-DraftBlockClause}
 use Rattle.dy_term.specs.declared.draft.DraftBlockClause.{DraftBlockClause}
-use Rattle.dy_term.specs.Literals.{Tail, no_tail, tail, list, vector, constants_of, tail_of, seen_literal, seen_tail}
 use Rattle.dy_term.specs.Types.{union, types_of, seen_type, seen_params, seen_results}
 use Rattle.dy_term.specs.Drafts.{Core, MaybeCore, nothing, just, CoreArms, arm_and, arms_of, CoreClauses, clause_and, clauses_of, CoreCatches, catch_and, catches_of, CoreMethods, method_and, methods_of, values, select, for, method, block, let_methods, from_clause, cores_of, seen_term, seen_block, seen_maybe, seen_step, seen_arms, seen_arm, seen_clauses, seen_clause, seen_limit, seen_bound, seen_test, seen_ending, seen_catches, seen_catch, seen_methods, seen_method, seen_lambda, seen_item, seen_option}
-use Rattle.dy_term.proofs.Parts.{literals_items, types_items, terms_items}
-
-tail_held : (held : Held-Literal-List-1) → seen_tail held ≡ tail_of (option_map (λ kept. seen_literal kept.value) (view-Literal-List-1 held))
-tail_held NoTail' = refl
-tail_held (SomeTail' p value) = refl
-
-pub seen_list : (items : Vec Literal Global) (last : Option (Box Literal Global)) → seen_literal (literals.List items last) ≡ list (constants_of (map seen_literal items.items)) (tail_of (option_map (λ kept. seen_literal kept.value) last))
-seen_list items last = search (rules, literal_lemmas, literals_items, tail_held)
-
-pub seen_vector : (items : Vec Literal Global) → seen_literal (literals.Vector items) ≡ vector (constants_of (map seen_literal items.items))
-seen_vector items = search (rules, literal_lemmas, literals_items)
+use Rattle.dy_term.proofs.Parts.{types_items, terms_items}
 
 pub seen_union : (word : Token) (inner : Vec DraftType Global) → seen_type (types.Union word inner) ≡ union word (types_of (map seen_type inner.items))
 seen_union word inner = search (rules, type_lemmas, types_items)

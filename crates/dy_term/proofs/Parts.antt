@@ -1,7 +1,6 @@
 -- The parts of a draft, as the lists of them.
 use Rattle.std.proofs.Common.{◌≡◌, List, ◌∷◌, map, refl, ap, rules}
 use Rattle.dy_tree.specs.declared.token.Token.{Token}
-use Rattle.dy_term.specs.declared.literal.Literal.{Row_of-Literal, end_of-Literal, more_of-Literal, items-the_row-Literal}
 use Rattle.dy_term.specs.declared.draft.DraftType.{Row_of-DraftType, end_of-DraftType, more_of-DraftType, items-the_row-DraftType}
 use Rattle.dy_term.specs.declared.draft.DraftTerm.{DraftTerm, Row_of-DraftTerm, end_of-DraftTerm, more_of-DraftTerm, items-the_row-DraftTerm, Row_of-DraftTerm-Cond-0-2, end_of-DraftTerm-Cond-0-2, more_of-DraftTerm-Cond-0-2, items-the_row-DraftTerm-Cond-0-2, Row_of-DraftItem, end_of-DraftItem, more_of-DraftItem, items-the_row-DraftItem}
 use Rattle.std.specs.declared.vec.Vec.{Vec}
@@ -10,13 +9,8 @@ use Rattle.std.specs.declared.alloc.Global.{Global}
 use Rattle.dy_term.specs.declared.draft.DraftItem.{DraftItem}
 use Rattle.dy_term.specs.declared.draft.DraftTerm.TheVariants.{Call, Cond, Body}
 use Rattle.dy_term.specs.declared.draft.DraftForClause.TheViews.{the_lemmas}
-use Rattle.dy_term.specs.Literals.{Constants, constant_and, constants_of, seen_literal, seen_literals}
 use Rattle.dy_term.specs.Types.{CoreTypes, type_and, types_of, seen_type, seen_types}
 use Rattle.dy_term.specs.Drafts.{call, cond, body, Core, Cores, core_and, cores_of, Choice, branch, choice_of, CoreItems, item_and, items_of, seen_term, seen_terms, seen_branches, seen_pair, seen_item, seen_items}
-
-pub literals_items : {m : _} (row : Row_of-Literal m) → seen_literals row ≡ constants_of (map seen_literal (items-the_row-Literal m row))
-literals_items end_of-Literal = refl
-literals_items (more_of-Literal first rest) = ap (λ (others : Constants). constant_and (seen_literal first) others) (literals_items rest)
 
 pub types_items : {m : _} (row : Row_of-DraftType m) → seen_types row ≡ types_of (map seen_type (items-the_row-DraftType m row))
 types_items end_of-DraftType = refl

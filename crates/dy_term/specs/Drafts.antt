@@ -2,6 +2,7 @@
 use Rattle.std.specs.Prelude.{ℕ, Bool, List, [], ◌∷◌, map, Option, Some, None}
 use Rattle.std.specs.Option.{option_map}
 use Rattle.dy_tree.specs.declared.token.Token.{Token}
+use Rattle.dy_term.specs.declared.literal.Literal.{Literal}
 use Rattle.dy_term.specs.declared.term.Limit.{Limit}
 use Rattle.dy_term.specs.declared.draft.Local.{Local}
 use Rattle.dy_term.specs.declared.draft.DraftTerm.{DraftTerm, Lit, Name, Hidden, Set', NoPlace', Call', Values', Cond', And', Or', Select', Body', Loop', For', Method', Block', Row_of-DraftTerm, end_of-DraftTerm, more_of-DraftTerm, Row_of-DraftTerm-Cond-0-2, end_of-DraftTerm-Cond-0-2, more_of-DraftTerm-Cond-0-2, Held-DraftTerm-Select-1, DraftTerm-Select-1-None', DraftTerm-Select-1-Some', Row_of-DraftArm, end_of-DraftArm, more_of-DraftArm, Row_of-DraftItem, end_of-DraftItem, more_of-DraftItem, Row_of-DraftForClause, end_of-DraftForClause, more_of-DraftForClause, Held-DraftFor-test, DraftFor-test-None', DraftFor-test-Some', Held-DraftForClause-From-4, DraftForClause-From-4-None', DraftForClause-From-4-Some'}
@@ -11,12 +12,11 @@ use Rattle.dy_term.specs.declared.draft.DraftBlock.{DraftBlock, DraftBlock', Row
 use Rattle.dy_term.specs.declared.draft.DraftArm.{DraftArm}
 use Rattle.dy_term.specs.declared.draft.DraftBlockClause.{DraftBlockClause}
 use Rattle.dy_term.specs.declared.draft.DraftLambda.{DraftLambda}
-use Rattle.dy_term.specs.Literals.{Constant, seen_literal}
 use Rattle.dy_term.specs.Types.{CoreType, CoreParams, CoreResults, seen_type, seen_typed, seen_params, seen_results}
 
 mutual
   pub data Core : Type 0 where
-    literal : (value : Constant) → Core
+    literal : (value : Literal) → Core
     name : (token : Token) → Core
     hidden : (number : ℕ) → Core
     set : (token : Token) (value : Core) → Core
@@ -136,7 +136,7 @@ catches_of (first ∷ rest) = catch_and first.variable first.condition first.bod
 
 abbrev mutual
   pub seen_term : DraftTerm → Core
-  seen_term (Lit value) = literal (seen_literal value)
+  seen_term (Lit value) = literal value
   seen_term (Name token) = name token
   seen_term (Hidden number) = hidden number
   seen_term (Set' token p value) = set token (seen_term value)

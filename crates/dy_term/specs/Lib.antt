@@ -1,4 +1,3 @@
 pub mod Drafts
-pub mod Literals
 pub mod Rows
 pub mod Types

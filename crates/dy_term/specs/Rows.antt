@@ -41,34 +41,32 @@ abbrev pub seen_slot : DraftSlot → CoreSlot
 seen_slot slot = record { getter = slot.getter; setter = slot.setter; kind = slot.kind; slot_type = seen_type slot.slot_type; keyword = slot.keyword; required = slot.required; init = option_map seen_init slot.init }
 
 pub record CoreClass : Type 0 where
+  pub adjectives : List Token
   pub name : Token
   pub supers : List Token
-  pub is_open : Bool
-  pub is_abstract : Bool
-  pub is_primary : Bool
   pub slots : List CoreSlot
 
 abbrev pub seen_class : DraftClass → CoreClass
-seen_class class = record { name = class.name; supers = class.supers.items; is_open = class.is_open; is_abstract = class.is_abstract; is_primary = class.is_primary; slots = map seen_slot class.slots.items }
+seen_class class = record { adjectives = class.adjectives.items; name = class.name; supers = class.supers.items; slots = map seen_slot class.slots.items }
 
 pub record CoreGeneric : Type 0 where
+  pub adjectives : List Token
   pub name : Token
-  pub is_open : Bool
   pub params : CoreParams
   pub results : CoreResults
 
 abbrev pub seen_generic : DraftGeneric → CoreGeneric
-seen_generic generic = record { name = generic.name; is_open = generic.is_open; params = seen_params generic.params; results = seen_results generic.results }
+seen_generic generic = record { adjectives = generic.adjectives.items; name = generic.name; params = seen_params generic.params; results = seen_results generic.results }
 
 -- a method of a generic function, and the name of the next method where none is written
 pub record CoreMethod : Type 0 where
+  pub adjectives : List Token
   pub generic : Token
-  pub is_sealed : Bool
   pub next : Option Token
   pub code : CoreLambda
 
 abbrev pub seen_definition : DraftMethod → CoreMethod
-seen_definition method = record { generic = method.generic; is_sealed = method.is_sealed; next = method.next; code = seen_lambda method.code }
+seen_definition method = record { adjectives = method.adjectives.items; generic = method.generic; next = method.next; code = seen_lambda method.code }
 
 pub record CoreDomain : Type 0 where
   pub generic : Token
@@ -79,11 +77,11 @@ seen_domain domain = record { generic = domain.generic; types = map seen_type do
 
 -- a function, or a constant that stands for a type
 pub data CoreVariable : Type 0 where
-  function : (name : Token) (code : CoreLambda) → CoreVariable
+  function : (adjectives : List Token) (name : Token) (code : CoreLambda) → CoreVariable
   type_constant : (name : Token) (declared : CoreType) (meant : CoreType) → CoreVariable
 
 abbrev pub seen_variable : DraftVariable → CoreVariable
-seen_variable (variables.Function name code) = function name (seen_lambda code)
+seen_variable (variables.Function adjectives name code) = function adjectives.items name (seen_lambda code)
 seen_variable (variables.Type name declared meant) = type_constant name (seen_type declared) (seen_type meant)
 
 -- what runs when the library is loaded: variables or constants that take the values of a term, or a term

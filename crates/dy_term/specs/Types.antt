@@ -2,7 +2,7 @@
 use Rattle.std.specs.Prelude.{ℕ, ℤ, Bool, List, [], ◌∷◌, map, Option, Some, None}
 use Rattle.std.specs.Option.{option_map}
 use Rattle.dy_tree.specs.declared.token.Token.{Token}
-use Rattle.dy_term.specs.Literals.{Constant, seen_literal}
+use Rattle.dy_term.specs.declared.literal.Literal.{Literal}
 use Rattle.dy_term.specs.declared.draft.DraftType.{DraftType, Object, Integer, Name, Single, SingleName, Union', Range, Row_of-DraftType, end_of-DraftType, more_of-DraftType}
 use Rattle.dy_term.specs.declared.draft.DraftKey.{DraftKey}
 use Rattle.dy_term.specs.declared.draft.DraftParams.{DraftParams}
@@ -17,7 +17,7 @@ mutual
     -- `<integer>`
     integer : CoreType
     named : (name : Token) → CoreType
-    single : (value : Constant) → CoreType
+    single : (value : Literal) → CoreType
     single_name : (told : Token) (name : Token) → CoreType
     union : (told : Token) (types : CoreTypes) → CoreType
     range : (told : Token) (least : ℤ) (greatest : ℤ) → CoreType
@@ -36,7 +36,7 @@ abbrev mutual
   seen_type Object = object
   seen_type Integer = integer
   seen_type (Name name) = named name
-  seen_type (Single value) = single (seen_literal value)
+  seen_type (Single value) = single value
   seen_type (SingleName told name) = single_name told name
   seen_type (Union' told shape types) = union told (seen_types types)
   seen_type (Range told least greatest) = range told least greatest

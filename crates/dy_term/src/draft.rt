@@ -176,14 +176,12 @@ pub struct DraftBlockClause {
     pub body: DraftTerm,
 }
 
-/// A class.
+/// A class, with its adjectives as they are written.
 #[derive(Debug, Drop)]
 pub struct DraftClass {
+    pub adjectives: Vec<Token>,
     pub name: Token,
     pub supers: Vec<Token>,
-    pub is_open: bool,
-    pub is_abstract: bool,
-    pub is_primary: bool,
     pub slots: Vec<DraftSlot>,
 }
 
@@ -212,17 +210,17 @@ pub enum DraftInit {
 /// A generic function.
 #[derive(Debug, Drop)]
 pub struct DraftGeneric {
+    pub adjectives: Vec<Token>,
     pub name: Token,
-    pub is_open: bool,
     pub params: DraftParams,
     pub results: DraftResults,
 }
 
-/// A method, and whether its specializers are a sealed domain.
+/// A method. Its specializers are a sealed domain where one of its adjectives is `sealed`.
 #[derive(Debug, Drop)]
 pub struct DraftMethod {
+    pub adjectives: Vec<Token>,
     pub generic: Token,
-    pub is_sealed: bool,
     /// The name of the next method where none is written. It stands outside the parameters.
     pub next: Option<Token>,
     pub code: DraftLambda,
@@ -238,7 +236,8 @@ pub struct DraftDomain {
 /// A function, or a constant that stands for a type.
 #[derive(Debug, Drop)]
 pub enum DraftVariable {
-    Function(Token, DraftLambda),
+    /// The adjectives, the name and the code.
+    Function(Vec<Token>, Token, DraftLambda),
     /// The name, its declared type, and the type that it stands for.
     Type(Token, DraftType, DraftType),
 }

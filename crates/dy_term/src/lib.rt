@@ -14,7 +14,7 @@ pub use draft::{
     DraftForClause, DraftGeneric, DraftInit, DraftItem, DraftKey, DraftLambda, DraftMethod,
     DraftParams, DraftResults, DraftSlot, DraftTerm, DraftTop, DraftType, DraftVariable, Local,
 };
-pub use literal::{Literal, list_literal, vector_literal};
+pub use literal::{Literal, list_literal};
 pub use rows::{
     ClassRow, DomainRow, GenericRow, Init, LibraryRow, MethodCode, MethodRow, Program, Row,
     SlotKind, SlotRow, TopTerm, VariableRow,
@@ -27,4 +27,4 @@ pub use term::{BlockRow, ForClause, ForRow, Item, Lambda, Limit, Term};
 pub use terms::{
     and_draft, body_draft, call_draft, cond_draft, loop_draft, no_place_draft, or_draft, set_draft,
 };
-pub use types::{DyType, Member, Params, Results};
+pub use types::{DyType, Member, Params, Results, Shape1};

@@ -2,24 +2,24 @@
 
 use crate::term::{Lambda, Term};
 use crate::types::{DyType, Params, Results};
-use dy_base::{BindingId, ClassId, GenericId, Name};
+use dy_base::{BindingId, ClassId, GenericId, Items, Name};
 
 /// A class.
-#[derive(Debug, Drop)]
+#[derive(Drop)]
 pub struct ClassRow {
     pub name: Name,
     /// The direct superclasses.
-    pub supers: Vec<ClassId>,
+    pub supers: Items<ClassId>,
     /// The class precedence order, which begins with the class.
-    pub order: Vec<ClassId>,
+    pub order: Items<ClassId>,
     pub is_open: bool,
     pub is_abstract: bool,
     pub is_primary: bool,
-    pub slots: Vec<SlotRow>,
+    pub slots: Items<SlotRow>,
 }
 
 /// A slot of a class.
-#[derive(Debug, Drop)]
+#[derive(Drop)]
 pub struct SlotRow {
     pub getter: GenericId,
     pub setter: Option<GenericId>,
@@ -45,7 +45,7 @@ pub enum SlotKind {
 }
 
 /// What a slot is filled with.
-#[derive(Debug, Drop)]
+#[derive(Drop)]
 pub enum Init {
     /// What the term gives each time.
     Each(Term),
@@ -63,7 +63,7 @@ pub struct GenericRow {
 }
 
 /// A method of a generic function.
-#[derive(Debug, Drop)]
+#[derive(Drop)]
 pub struct MethodRow {
     pub generic: GenericId,
     pub params: Params,
@@ -72,14 +72,14 @@ pub struct MethodRow {
 }
 
 /// What a method does.
-#[derive(Debug, Drop)]
+#[derive(Drop)]
 pub enum MethodCode {
     Dylan(Lambda),
     /// It reads the slot of this place in a class.
     Getter(ClassId, u32),
     /// It writes the slot of this place in a class.
     Setter(ClassId, u32),
-    /// It is built in, by its number.
+    /// A built-in operation, by its number.
     Builtin(u16),
 }
 
@@ -87,12 +87,12 @@ pub enum MethodCode {
 #[derive(Debug, Drop)]
 pub struct DomainRow {
     pub generic: GenericId,
-    pub types: Vec<DyType>,
+    pub types: Items<DyType>,
     pub result: Option<DyType>,
 }
 
 /// A variable, a constant or a function.
-#[derive(Debug, Drop)]
+#[derive(Drop)]
 pub struct VariableRow {
     pub name: Name,
     pub declared: DyType,
@@ -100,18 +100,20 @@ pub struct VariableRow {
     pub function: Option<Lambda>,
     /// The type that a type constant stands for.
     pub named: Option<DyType>,
+    /// The number of the built-in operation that a built-in function is. It has no lambda then.
+    pub builtin: Option<u16>,
 }
 
 /// A form that runs when its library is loaded.
-#[derive(Debug, Drop)]
+#[derive(Drop)]
 pub enum TopTerm {
     /// The bindings that take the values of the term.
-    Init(Vec<BindingId>, Term),
+    Init(Items<BindingId>, Term),
     Run(Term),
 }
 
 /// A row of a library, or a form that runs.
-#[derive(Debug, Drop)]
+#[derive(Drop)]
 pub enum Row {
     Class(ClassRow),
     Generic(GenericRow),
@@ -122,22 +124,22 @@ pub enum Row {
 }
 
 /// What a library holds.
-#[derive(Debug, Drop)]
+#[derive(Drop)]
 pub struct LibraryRow {
     pub name: Name,
     /// The libraries that it uses, by their places in the load order.
-    pub uses: Vec<u32>,
-    pub classes: Vec<ClassRow>,
-    pub generics: Vec<GenericRow>,
-    pub methods: Vec<MethodRow>,
-    pub domains: Vec<DomainRow>,
-    pub variables: Vec<VariableRow>,
+    pub uses: Items<u32>,
+    pub classes: Items<ClassRow>,
+    pub generics: Items<GenericRow>,
+    pub methods: Items<MethodRow>,
+    pub domains: Items<DomainRow>,
+    pub variables: Items<VariableRow>,
     /// The forms that run, in the order of the text.
-    pub tops: Vec<TopTerm>,
+    pub tops: Items<TopTerm>,
 }
 
 /// A library with all that it uses, in load order.
-#[derive(Debug, Drop)]
+#[derive(Drop)]
 pub struct Program {
-    pub libraries: Vec<LibraryRow>,
+    pub libraries: Items<LibraryRow>,
 }

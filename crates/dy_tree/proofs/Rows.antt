@@ -1,11 +1,7 @@
 -- What is inside a group, as the list of it.
-use Rattle.std.proofs.Common.{◌≡◌, List, ◌∷◌, refl, ap}
+use Rattle.std.proofs.Common.{◌≡◌, refl, ap}
 use Rattle.dy_tree.specs.declared.fragment.Fragment.{Row_of-Fragment, end_of-Fragment, more_of-Fragment, items-the_row-Fragment}
-use Rattle.dy_tree.specs.Fragments.{SeenFragment, SeenFragments, fragment_and, row, pack, seen_fragment, seen_inner, seen_fragments}
-
-pub inner_items : {m : _} (fragments : Row_of-Fragment m) → row (seen_inner fragments) ≡ seen_fragments (items-the_row-Fragment m fragments)
-inner_items end_of-Fragment = refl
-inner_items (more_of-Fragment first rest) = ap (λ (others : List SeenFragment). seen_fragment first ∷ others) (inner_items rest)
+use Rattle.dy_tree.specs.Fragments.{SeenFragments, fragment_and, pack, seen_fragment, seen_inner, seen_fragments}
 
 pub inner_packs : {m : _} (fragments : Row_of-Fragment m) → seen_inner fragments ≡ pack (seen_fragments (items-the_row-Fragment m fragments))
 inner_packs end_of-Fragment = refl

@@ -1,11 +1,12 @@
 //! Expressions, statements and bodies (DRM, appendix A). A bracketed expression is the tree inside.
 
+use crate::brackets::Guard;
+use crate::roles::Precedence;
 use crate::token::Token;
 use crate::types::{ConstantForm, LiteralForm, TypeForm};
 use crate::variables::{Required, Results, Target, Variable};
 
-/// An expression. All binary operators but `:=` are left associative, and each variant of theirs is
-/// a level, which binds tighter than the one before.
+/// An expression. All binary operators but `:=` are left associative.
 #[cycle(forms)]
 #[derive(Debug, Drop)]
 pub enum Expression {
@@ -14,32 +15,9 @@ pub enum Expression {
         place: Box<Expression>,
         value: Box<Expression>,
     },
-    /// `&` and `|`
-    Logical {
-        left: Box<Expression>,
-        operator: Token,
-        right: Box<Expression>,
-    },
-    /// `=`, `==`, `<`, `>`, `<=`, `>=`, `~=` and `~==`
-    Comparison {
-        left: Box<Expression>,
-        operator: Token,
-        right: Box<Expression>,
-    },
-    /// `+` and `-`
-    Sum {
-        left: Box<Expression>,
-        operator: Token,
-        right: Box<Expression>,
-    },
-    /// `*` and `/`
-    Product {
-        left: Box<Expression>,
-        operator: Token,
-        right: Box<Expression>,
-    },
-    /// `^`
-    Power {
+    /// `left operator right`
+    Operation {
+        precedence: Precedence,
         left: Box<Expression>,
         operator: Token,
         right: Box<Expression>,
@@ -78,6 +56,13 @@ pub enum Expression {
         opener: Token,
         items: Vec<ConstantForm>,
     },
+    Statement(Statement),
+}
+
+/// A statement, from its word to its `end`.
+#[cycle(forms)]
+#[derive(Debug, Drop)]
+pub enum Statement {
     /// `begin body end`
     Begin {
         word: Token,
@@ -97,20 +82,9 @@ pub enum Expression {
         alternatives: Vec<Alternative>,
         otherwise: Option<Vec<Item>>,
     },
-    /// `unless (test) body end`
-    Unless {
-        word: Token,
-        test: Box<Expression>,
-        body: Vec<Item>,
-    },
-    /// `while (test) body end`
-    While {
-        word: Token,
-        test: Box<Expression>,
-        body: Vec<Item>,
-    },
-    /// `until (test) body end`
-    Until {
+    /// `unless (test) body end`, and the same of `while` and of `until`
+    Guarded {
+        guard: Guard,
         word: Token,
         test: Box<Expression>,
         body: Vec<Item>,
@@ -144,6 +118,27 @@ pub enum Expression {
         body: Vec<Item>,
         finally: Option<Vec<Item>>,
     },
+}
+
+impl Statement {
+    ghost use Rattle.std.specs.Prelude.{◌≡◌};
+    ghost use Rattle.dy_tree.specs.Statements.{word_of};
+
+    /// The word that begins it.
+    pub fn word(&self) -> &Token
+        ensures { result.now ≡ word_of self.now }
+    {
+        match self {
+            Statement::Begin { word, .. }
+            | Statement::Method { word, .. }
+            | Statement::If { word, .. }
+            | Statement::Guarded { word, .. }
+            | Statement::Case { word, .. }
+            | Statement::Select { word, .. }
+            | Statement::Block { word, .. }
+            | Statement::For { word, .. } => word,
+        }
+    }
 }
 
 /// An argument: `keyword: value`, which passes two, or a value.

@@ -1,6 +1,7 @@
 //! The tokens of a source file (DRM 2, "Lexical syntax").
 
 ghost use Rattle.std.specs.Prelude.{◌≡◌, IfOk};
+ghost use Rattle.dy_tree.specs.Spelling as spelling;
 
 use dy_base::{Place, Text};
 use std::alloc::AllocError;
@@ -54,5 +55,26 @@ impl Token {
         ensures { IfOk result (λ copy. copy ≡ self.now) }
     {
         self.clone()
+    }
+
+    /// Whether the text is these bytes.
+    pub fn is_spelled(&self, text: &[u8]) -> bool
+        ensures { result ≡ spelling.is_spelled text.now self.now }
+    {
+        self.text.bytes() == text
+    }
+
+    /// Whether it is this name, without a backslash.
+    pub fn is_word(&self, text: &[u8]) -> bool
+        ensures { result ≡ spelling.is_word text.now self.now }
+    {
+        matches!(self.kind, TokenKind::Name) && self.is_spelled(text)
+    }
+
+    /// Whether it is this punctuation.
+    pub fn is_sign(&self, text: &[u8]) -> bool
+        ensures { result ≡ spelling.is_sign text.now self.now }
+    {
+        matches!(self.kind, TokenKind::Punctuation) && self.is_spelled(text)
     }
 }

@@ -6,7 +6,7 @@ use Rattle.dy_tree.specs.declared.expression.ForClause.{ForClause}
 use Rattle.dy_rules.specs.Marks.{comma_mark, semicolon_mark}
 use Rattle.dy_rules.specs.SeenForms.{seen_for_clause}
 use Rattle.dy_rules.specs.Trees as trees
-use Rattle.dy_writer.specs.Held.{held_arm}
+use Rattle.dy_rules.specs.Held.{held_arm}
 use Rattle.dy_writer.specs.Plain.{choice_break, clause_break}
 
 pub arms_and_body : (arms : List Arm) (body : trees.Body) → length arms == 0 ≡ false → choice_break (trees.arms_of (map held_arm arms)) (trees.otherwise body) ≡ semicolon_mark ∷ []

@@ -1,11 +1,10 @@
 mod Appends
 mod Breaks
 mod Endings
-mod Held
 mod Joined
 mod Links
 mod Lists
-mod Rows
 mod Separated
+mod Statements
 mod Steps
 mod Wholes

@@ -1,4 +1,3 @@
-pub mod Held
 pub mod Joined
 pub mod Parts
 pub mod Plain

@@ -5,12 +5,6 @@ use Rattle.dy_rules.specs.Marks.{in_round, written_literal, assigns_mark, dot_ma
 use Rattle.dy_rules.specs.Trees.{Tree, assignment, operation, call, element, member, literal, name, list, vector, begin_tree, if_tree, guarded, case_tree, select_tree, block_tree, for_tree, ForClauses, no_for_clause, for_clause_and, MaybeStop, no_stop, a_stop, method_tree, Arms, no_arm, arm_and, Otherwise, no_otherwise, otherwise}
 use Rattle.dy_rules.specs.Writing.{written, written_operand, written_arguments, written_items, written_tail, written_body, written_signature, written_test, written_exit, written_for, written_stop, joined_clauses, written_alternatives, written_otherwise, written_arms, written_remains, joined_choices, written_clauses, written_finally}
 
--- a binary operator
-abbrev pub operator_between : Tree → List SeenFragment
-operator_between (assignment place assigned) = assigns_mark ∷ []
-operator_between (operation precedence left operator right) = one operator ∷ []
-operator_between _ = []
-
 -- what stands behind the first operand
 abbrev pub behind_first : Tree → List SeenFragment
 behind_first (assignment place assigned) = assigns_mark ∷ written_operand assigned

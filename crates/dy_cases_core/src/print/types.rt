@@ -1,6 +1,7 @@
 //! Literals, types and parameter lists.
 
 use crate::written::Written;
+use dy_base::Items;
 use dy_term::{DraftParams, DraftResults, DraftType, Literal};
 use dy_tree::Token;
 
@@ -43,9 +44,9 @@ pub(super) fn write_literal(out: &mut Written, word: &str, literal: &Literal) {
 }
 
 #[cycle(literals)]
-fn write_literals(out: &mut Written, word: &str, items: &Vec<Literal>) {
+fn write_literals(out: &mut Written, word: &str, items: &Items<Literal>) {
     out.word(word);
-    for item in items {
+    for item in items.as_slice() {
         write_literal(out, " ", item);
     }
 }

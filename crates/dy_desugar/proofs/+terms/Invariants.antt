@@ -8,17 +8,14 @@ use Rattle.dy_desugar.proofs.+terms.Given as goal
 abbrev pub decreases-expressions::term_of : goal.decreases-expressions::term_of
 decreases-expressions::term_of l = 5 * goal.size-expressions::term_of l + 2
 
-abbrev pub decreases-expressions::operator_of : goal.decreases-expressions::operator_of
-decreases-expressions::operator_of l = 5 * goal.size-expressions::operator_of l + 1
+abbrev pub decreases-expressions::maybe_term_of : goal.decreases-expressions::maybe_term_of
+decreases-expressions::maybe_term_of l = 5 * goal.size-expressions::maybe_term_of l + 3
 
-abbrev pub decreases-expressions::operand_of : goal.decreases-expressions::operand_of
-decreases-expressions::operand_of l = 5 * goal.size-expressions::operand_of l + 1
+abbrev pub decreases-statements::statement_of : goal.decreases-statements::statement_of
+decreases-statements::statement_of l = 5 * goal.size-statements::statement_of l + 1
 
 abbrev pub decreases-expressions::assignment_of : goal.decreases-expressions::assignment_of
 decreases-expressions::assignment_of l = 5 * goal.size-expressions::assignment_of l + 4
-
-abbrev pub decreases-expressions::set_call : goal.decreases-expressions::set_call
-decreases-expressions::set_call l = 5 * goal.size-expressions::set_call l + 1
 
 abbrev pub decreases-expressions::no_place_of : goal.decreases-expressions::no_place_of
 decreases-expressions::no_place_of l = 5 * goal.size-expressions::no_place_of l + 3
@@ -26,14 +23,8 @@ decreases-expressions::no_place_of l = 5 * goal.size-expressions::no_place_of l 
 abbrev pub decreases-expressions::arguments_of : goal.decreases-expressions::arguments_of
 decreases-expressions::arguments_of l = 5 * goal.size-expressions::arguments_of l + 0
 
-abbrev pub decreases-choices::choice_of : goal.decreases-choices::choice_of
-decreases-choices::choice_of l = 5 * goal.size-choices::choice_of l + 1
-
 abbrev pub decreases-choices::branches_of : goal.decreases-choices::branches_of
 decreases-choices::branches_of l = 5 * goal.size-choices::branches_of l + 0
-
-abbrev pub decreases-choices::or_false : goal.decreases-choices::or_false
-decreases-choices::or_false l = 5 * goal.size-choices::or_false l + 2
 
 abbrev pub decreases-choices::cases_of : goal.decreases-choices::cases_of
 decreases-choices::cases_of l = 5 * goal.size-choices::cases_of l + 0
@@ -68,12 +59,6 @@ decreases-methods::defaults_of l = 5 * goal.size-methods::defaults_of l + 0
 abbrev pub decreases-methods::keys_defaults : goal.decreases-methods::keys_defaults
 decreases-methods::keys_defaults l = 5 * goal.size-methods::keys_defaults l + 0
 
-abbrev pub decreases-methods::default_of : goal.decreases-methods::default_of
-decreases-methods::default_of l = 5 * goal.size-methods::default_of l + 3
-
-abbrev pub decreases-scopes::scope_of : goal.decreases-scopes::scope_of
-decreases-scopes::scope_of l = 5 * goal.size-scopes::scope_of l + 1
-
 abbrev pub decreases-scopes::afterwards_of : goal.decreases-scopes::afterwards_of
 decreases-scopes::afterwards_of l = 5 * goal.size-scopes::afterwards_of l + 1
 
@@ -92,9 +77,6 @@ decreases-scopes::exception_in l = 5 * goal.size-scopes::exception_in l + 0
 abbrev pub decreases-scopes::exceptions_of : goal.decreases-scopes::exceptions_of
 decreases-scopes::exceptions_of l = 5 * goal.size-scopes::exceptions_of l + 1
 
-abbrev pub decreases-turns::loop_of : goal.decreases-turns::loop_of
-decreases-turns::loop_of l = 5 * goal.size-turns::loop_of l + 1
-
 abbrev pub decreases-turns::clauses_of : goal.decreases-turns::clauses_of
 decreases-turns::clauses_of l = 5 * goal.size-turns::clauses_of l + 1
 
@@ -103,9 +85,6 @@ decreases-turns::clause_of l = 5 * goal.size-turns::clause_of l + 0
 
 abbrev pub decreases-turns::bound_of : goal.decreases-turns::bound_of
 decreases-turns::bound_of l = 5 * goal.size-turns::bound_of l + 0
-
-abbrev pub decreases-turns::step_of : goal.decreases-turns::step_of
-decreases-turns::step_of l = 5 * goal.size-turns::step_of l + 3
 
 abbrev pub decreases-turns::stop_of : goal.decreases-turns::stop_of
 decreases-turns::stop_of l = 5 * goal.size-turns::stop_of l + 0

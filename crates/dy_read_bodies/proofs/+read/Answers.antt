@@ -76,7 +76,6 @@ use Rattle.dy_rules.specs.Depth.{tests_depth, block_clauses_depth, body_depth, m
 use Rattle.dy_rules.specs.Fragments.{items_of, tree_inside}
 use Rattle.dy_rules.specs.Loops.{clause_items, for_items, is_stop, stop_items, stop_with, Range as RangeTree, limit_with, for_statement, finally_in}
 use Rattle.dy_rules.specs.Reading.{expression_items, passed_items, after_passing, nothing_passed, after_all, wants, whole}
-use Rattle.dy_rules.specs.Roles.{nothing, endings, Splitter, branches, last_part}
 use Rattle.dy_rules.specs.SeenForms.{seen_clause, seen_item, seen_method}
 use Rattle.dy_rules.specs.Signatures.{named_items, key_of, key_items, keys_of_found, with_key, listed_keys, method_items, listed_items}
 use Rattle.dy_rules.specs.StatementReading.{select_items, Tested, if_items, guarded_items}
@@ -98,16 +97,16 @@ use Rattle.dy_read_types.specs.Endings.{parts_before}
 use Rattle.dy_read_types.specs.TypeCaps.{read_type}
 use Rattle.dy_read_types.specs.TypeFronts.{TypeDepth}
 use Rattle.dy_read_types.specs.VariableFronts.{read_variable, seen_front, capped_front, IsRestWithin as VariableRestWithin}
-use Rattle.dy_read_words.specs.Seen.{seen_splitter, seen_splitting, seen_bracket, seen_guard}
 use Rattle.std.proofs.Common.{◌≡◌, Option, Some, option_map, option_and_then, sym, ap, ◌∙◌, true, refl, ◌<◌, ◌-◌, ℕ, length, take, get_or, List, [], ◌∷◌, ◌++◌, None, map, subst, arith, ◌≤◌, max, Bor, rules, ◌==◌, ◌+◌, false, drop, Bool}
 use Rattle.std.proofs.lemmas.Bool.{eqb-true}
 use Rattle.std.proofs.lemmas.List.{take_all, map-append, drop_all}
 use Rattle.std.proofs.lemmas.Result.{IfOk-weaker}
 use Rattle.std.specs.List.{All}
+use Rattle.dy_tree.specs.declared.splitters.Splitting.TheVariants as splittings
+use Rattle.dy_tree.specs.declared.splitters.Splitter.{Splitter}
 use Rattle.dy_read_shapes.specs.declared.loop_shape.ClauseParts.TheVariants as clause_parts
 use Rattle.dy_rules.specs.Bodies as spec
 use Rattle.dy_rules.specs.Cutting as cutting
-use Rattle.dy_rules.specs.Roles as roles
 use Rattle.dy_rules.specs.Trees as trees
 use Rattle.dy_read_bodies.proofs.+read.Goals as goal
 
@@ -218,14 +217,14 @@ arms::first_item-returns-clause-found t c = c.present.ensures.found ∙ ap (opti
 pub arms::head-returns-in_ok-expression-in-Alone : goal.arms::head-returns-in_ok-expression-in-Alone
 arms::head-returns-in_ok-expression-in-Alone t c =
     let items = items_of (seen_fragments c.args.fragments.now) in
-    c.alone.ensures ∙ ap (option_map head_alone) c.in_ok-expression-in-Alone.ensures ∙ alone_through (expression_items roles.tests (items_of (seen_fragments c.in-Alone.selected.now)))
+    c.alone.ensures ∙ ap (option_map head_alone) c.in_ok-expression-in-Alone.ensures ∙ alone_through (expression_items splittings.Tests (items_of (seen_fragments c.in-Alone.selected.now)))
     ∙ ap (option_map (changed_head capping)) (sym (head_is items _ c.in-Alone.ensures.head))
 
 pub arms::head-returns-in_ok-compared-in-Tested : goal.arms::head-returns-in_ok-compared-in-Tested
 arms::head-returns-in_ok-compared-in-Tested t c =
     let items = items_of (seen_fragments c.args.fragments.now) in
     c.by_test.ensures ∙ both_are head_by c.in_ok-value-in-Tested.ensures c.in_ok-compared-in-Tested.ensures
-    ∙ by_through (expression_items roles.tests (items_of (seen_fragments c.in-Tested.selected.now))) (items_of (seen_fragments c.in-Tested.test.now))
+    ∙ by_through (expression_items splittings.Tests (items_of (seen_fragments c.in-Tested.selected.now))) (items_of (seen_fragments c.in-Tested.test.now))
     ∙ ap (option_map (changed_head capping)) (sym (head_is items _ c.in-Tested.ensures.head))
 
 pub arms::head-returns-in-Absent : goal.arms::head-returns-in-Absent
@@ -246,9 +245,9 @@ arms::tests-returns-in-None-clause-found t c =
     let list = seen_fragments c.in-Some.list.now in
     let first = items_of (seen_fragments c.split_piece.result.0.now) in
     let rest = seen_fragments c.split_piece.result.1.now in
-    let none : None ≡ option_map capped (expression_items nothing first) = ap (option_map read_grown) (sym c.in-None.is) ∙ c.in_ok-grown.ensures in
-    part_fails capped is_comma_fragment (expression_items nothing) (read_tests c.loop-behind.trees) list first rest c.split_piece.ensures.pieces none
-    ∙ sym (c.loop-behind.invariant.read ∙ ap (λ (behind : Option (Bor (List Fragment))). read_before (read_tests c.loop-behind.trees) (option_map capped_trees (each_part is_comma_fragment (expression_items nothing) (option_map seen_slice behind)))) c.in-Some.is)
+    let none : None ≡ option_map capped (expression_items splittings.Nothing first) = ap (option_map read_grown) (sym c.in-None.is) ∙ c.in_ok-grown.ensures in
+    part_fails capped is_comma_fragment (expression_items splittings.Nothing) (read_tests c.loop-behind.trees) list first rest c.split_piece.ensures.pieces none
+    ∙ sym (c.loop-behind.invariant.read ∙ ap (λ (behind : Option (Bor (List Fragment))). read_before (read_tests c.loop-behind.trees) (option_map capped_trees (each_part is_comma_fragment (expression_items splittings.Nothing) (option_map seen_slice behind)))) c.in-Some.is)
 
 pub arms::tests-loop-behind-preserved : goal.arms::tests-loop-behind-preserved
 arms::tests-loop-behind-preserved t c =
@@ -259,13 +258,13 @@ arms::tests-loop-behind-preserved t c =
     let rest = seen_fragments c.split_piece.result.1.now in
     let before = read_tests c.loop-behind.trees in
     let next = read_grown c.in-Some-2.grown in
-    let some : Some next ≡ option_map capped (expression_items nothing first) = ap (option_map read_grown) (sym c.in-Some-2.is) ∙ c.in_ok-grown.ensures in
+    let some : Some next ≡ option_map capped (expression_items splittings.Nothing first) = ap (option_map read_grown) (sym c.in-Some-2.is) ∙ c.in_ok-grown.ensures in
     let pushed : read_tests c.push.new.self ≡ before ++ next ∷ [] = ap (map read_tree) c.in_ok-push-in-Some-2.ensures.items ∙ map-append read_tree c.loop-behind.trees.items (c.into_inner.result ∷ []) ∙ ap (λ (tree : Tree). before ++ tree ∷ []) (ap read_tree c.into_inner.ensures) in
     record {
       read =
-          c.loop-behind.invariant.read ∙ ap (λ (behind : Option (Bor (List Fragment))). read_before before (option_map capped_trees (each_part is_comma_fragment (expression_items nothing) (option_map seen_slice behind)))) c.in-Some.is
-          ∙ part_read capped is_comma_fragment (expression_items nothing) before (read_tests c.push.new.self) next list first rest c.split_piece.ensures.pieces some pushed
-          ∙ ap (λ (found : Option (List SeenFragment)). read_before (read_tests c.push.new.self) (option_map capped_trees (each_part is_comma_fragment (expression_items nothing) found))) (sym c.behind_first-behind.ensures.behind);
+          c.loop-behind.invariant.read ∙ ap (λ (behind : Option (Bor (List Fragment))). read_before before (option_map capped_trees (each_part is_comma_fragment (expression_items splittings.Nothing) (option_map seen_slice behind)))) c.in-Some.is
+          ∙ part_read capped is_comma_fragment (expression_items splittings.Nothing) before (read_tests c.push.new.self) next list first rest c.split_piece.ensures.pieces some pushed
+          ∙ ap (λ (found : Option (List SeenFragment)). read_before (read_tests c.push.new.self) (option_map capped_trees (each_part is_comma_fragment (expression_items splittings.Nothing) found))) (sym c.behind_first-behind.ensures.behind);
       depth =
           let old = c.loop-behind.invariant.depth in
           let more = tests_more before next in
@@ -290,7 +289,7 @@ blocks::block_at-returns t c =
 
 pub blocks::block_clause-returns-in_ok-items-in-Afterwards-clause-found : goal.blocks::block_clause-returns-in_ok-items-in-Afterwards-clause-found
 blocks::block_clause-returns-in_ok-items-in-Afterwards-clause-found t c =
-    let trees = body_items endings (items_of (seen_fragments c.args.fragments.now)) in
+    let trees = body_items splittings.Endings (items_of (seen_fragments c.args.fragments.now)) in
     let same : option_map read_clause c.afterwards.result ≡ option_map (changed_clause capping) (option_map afterwards_of trees) = c.afterwards.ensures ∙ ap (option_map afterwards_of) c.in_ok-items-in-Afterwards.ensures.found ∙ afterwards_through trees in
     rw c.in-Afterwards.is same
 
@@ -299,7 +298,7 @@ blocks::block_clause-returns-in_ok-items-in-Afterwards-clause-depth t c = afterw
 
 pub blocks::block_clause-returns-in_ok-items-in-Cleanup-clause-found : goal.blocks::block_clause-returns-in_ok-items-in-Cleanup-clause-found
 blocks::block_clause-returns-in_ok-items-in-Cleanup-clause-found t c =
-    let trees = body_items endings (items_of (seen_fragments c.args.fragments.now)) in
+    let trees = body_items splittings.Endings (items_of (seen_fragments c.args.fragments.now)) in
     let same : option_map read_clause c.cleanup.result ≡ option_map (changed_clause capping) (option_map cleanup_of trees) = c.cleanup.ensures ∙ ap (option_map cleanup_of) c.in_ok-items-in-Cleanup.ensures.found ∙ cleanup_through trees in
     rw c.in-Cleanup.is same
 
@@ -320,7 +319,7 @@ blocks::block_clauses-returns-in-None-clause-found t c =
     ap (option_map read_clause) (sym c.in-None.is) ∙ c.in_ok-clause.ensures.found ∙ ap (λ (word : Splitter). option_map (changed_clause capping) (block_clause_at word first)) c.word_of.ensures
     in
     clause_missing separator behind first rest c.split_piece.ensures.pieces (read_clauses c.loop-separator.clauses) none
-    ∙ sym (c.loop-separator.invariant.read ∙ ap (λ (list : List Fragment). read_before (read_clauses c.loop-separator.clauses) (option_map (map (changed_clause capping)) (block_clauses_in (others_in (is_splitter endings) (seen_fragments list))))) is)
+    ∙ sym (c.loop-separator.invariant.read ∙ ap (λ (list : List Fragment). read_before (read_clauses c.loop-separator.clauses) (option_map (map (changed_clause capping)) (block_clauses_in (others_in (is_splitter splittings.Endings) (seen_fragments list))))) is)
 
 pub blocks::block_clauses-loop-separator-preserved : goal.blocks::block_clauses-loop-separator-preserved
 blocks::block_clauses-loop-separator-preserved t c =
@@ -341,7 +340,7 @@ blocks::block_clauses-loop-separator-preserved t c =
     in
     record {
       read =
-          c.loop-separator.invariant.read ∙ ap (λ (list : List Fragment). read_before before (option_map (map (changed_clause capping)) (block_clauses_in (others_in (is_splitter endings) (seen_fragments list))))) is
+          c.loop-separator.invariant.read ∙ ap (λ (list : List Fragment). read_before before (option_map (map (changed_clause capping)) (block_clauses_in (others_in (is_splitter splittings.Endings) (seen_fragments list))))) is
           ∙ clause_more separator behind first rest c.split_piece.ensures.pieces before (read_clauses c.push.new.self) next some pushed;
       depth =
           let deeper : ClauseDepth c.loop-separator.depth c.block_clause.new.depth (Some c.in-Some-2.clause) = subst (λ (found : Option BlockClause). ClauseDepth c.loop-separator.depth c.block_clause.new.depth found) c.in-Some-2.is c.in_ok-clause.ensures.depth in
@@ -359,7 +358,7 @@ blocks::block_clauses-loop-separator-preserved t c =
 pub blocks::exception_at-returns-clause-found : goal.blocks::exception_at-returns-clause-found
 blocks::exception_at-returns-clause-found t c =
     c.exception.ensures
-    ∙ clause_found (caught_items (items_of (seen_fragments c.args.condition.now))) (option_map read_caught c.in_ok-catches.catches) (body_items endings (items_of (seen_fragments c.args.fragments.now))) (option_map read_items c.in_ok-items.items) c.in_ok-catches.ensures.found c.in_ok-items.ensures.found
+    ∙ clause_found (caught_items (items_of (seen_fragments c.args.condition.now))) (option_map read_caught c.in_ok-catches.catches) (body_items splittings.Endings (items_of (seen_fragments c.args.fragments.now))) (option_map read_items c.in_ok-items.items) c.in_ok-catches.ensures.found c.in_ok-items.ensures.found
 
 pub blocks::exception_at-returns-clause-depth : goal.blocks::exception_at-returns-clause-depth
 blocks::exception_at-returns-clause-depth t c = exception_depth c.args.depth.now c.caught_items.new.depth c.body.new.depth c.in_ok-catches.catches c.in_ok-items.items c.exception.result c.exception.ensures c.in_ok-catches.ensures.depth c.in_ok-items.ensures.depth
@@ -375,9 +374,9 @@ bodies::body-returns-in-None-clause-found t c =
     let list = seen_fragments c.in-Some.list.now in
     let first = items_of (seen_fragments c.split_piece.result.0.now) in
     let rest = seen_fragments c.split_piece.result.1.now in
-    let none : None ≡ option_map (changed_item capping) (item_items (seen_splitting c.args.words) first) = ap (option_map read_item) (sym c.in-None.is) ∙ c.in_ok-read.ensures.found in
-    part_fails (changed_item capping) is_semicolon (item_items (seen_splitting c.args.words)) (read_items c.loop-behind.items) list first rest c.split_piece.ensures.pieces none
-    ∙ sym (c.loop-behind.invariant.read ∙ ap (λ (behind : Option (Bor (List Fragment))). read_before (read_items c.loop-behind.items) (option_map (map (changed_item capping)) (each_part is_semicolon (item_items (seen_splitting c.args.words)) (option_map seen_slice behind)))) c.in-Some.is)
+    let none : None ≡ option_map (changed_item capping) (item_items c.args.words first) = ap (option_map read_item) (sym c.in-None.is) ∙ c.in_ok-read.ensures.found in
+    part_fails (changed_item capping) is_semicolon (item_items c.args.words) (read_items c.loop-behind.items) list first rest c.split_piece.ensures.pieces none
+    ∙ sym (c.loop-behind.invariant.read ∙ ap (λ (behind : Option (Bor (List Fragment))). read_before (read_items c.loop-behind.items) (option_map (map (changed_item capping)) (each_part is_semicolon (item_items c.args.words) (option_map seen_slice behind)))) c.in-Some.is)
 
 pub bodies::body-loop-behind-preserved : goal.bodies::body-loop-behind-preserved
 bodies::body-loop-behind-preserved t c =
@@ -387,7 +386,7 @@ bodies::body-loop-behind-preserved t c =
     let rest = seen_fragments c.split_piece.result.1.now in
     let before = read_items c.loop-behind.items in
     let next = read_item c.in-Some-2.read in
-    let some : Some next ≡ option_map (changed_item capping) (item_items (seen_splitting c.args.words) first) = ap (option_map read_item) (sym c.in-Some-2.is) ∙ c.in_ok-read.ensures.found in
+    let some : Some next ≡ option_map (changed_item capping) (item_items c.args.words first) = ap (option_map read_item) (sym c.in-Some-2.is) ∙ c.in_ok-read.ensures.found in
     let pushed : read_items c.push.new.self ≡ before ++ next ∷ [] =
     ap (λ (forms : List ItemForm). map (changed_item filling) (map seen_item forms)) c.in_ok-push-in-Some-2.ensures.items ∙ ap (map (changed_item filling)) (map-append seen_item c.loop-behind.items.items (c.in-Some-2.read ∷ []))
     ∙ map-append (changed_item filling) (map seen_item c.loop-behind.items.items) (seen_item c.in-Some-2.read ∷ [])
@@ -395,9 +394,9 @@ bodies::body-loop-behind-preserved t c =
     let within : IsWithin n (Some c.in-Some.list) = subst (λ (behind : Option (Bor (List Fragment))). IsWithin (nesting (seen_fragments c.args.fragments.now)) behind) c.in-Some.is c.loop-behind.invariant.nested in
     record {
       read =
-          c.loop-behind.invariant.read ∙ ap (λ (behind : Option (Bor (List Fragment))). read_before before (option_map (map (changed_item capping)) (each_part is_semicolon (item_items (seen_splitting c.args.words)) (option_map seen_slice behind)))) c.in-Some.is
-          ∙ part_read (changed_item capping) is_semicolon (item_items (seen_splitting c.args.words)) before (read_items c.push.new.self) next list first rest c.split_piece.ensures.pieces some pushed
-          ∙ ap (λ (found : Option (List SeenFragment)). read_before (read_items c.push.new.self) (option_map (map (changed_item capping)) (each_part is_semicolon (item_items (seen_splitting c.args.words)) found))) (sym c.behind_first-behind.ensures.behind);
+          c.loop-behind.invariant.read ∙ ap (λ (behind : Option (Bor (List Fragment))). read_before before (option_map (map (changed_item capping)) (each_part is_semicolon (item_items c.args.words) (option_map seen_slice behind)))) c.in-Some.is
+          ∙ part_read (changed_item capping) is_semicolon (item_items c.args.words) before (read_items c.push.new.self) next list first rest c.split_piece.ensures.pieces some pushed
+          ∙ ap (λ (found : Option (List SeenFragment)). read_before (read_items c.push.new.self) (option_map (map (changed_item capping)) (each_part is_semicolon (item_items c.args.words) found))) (sym c.behind_first-behind.ensures.behind);
       depth =
           let deeper : ItemDepth c.loop-behind.depth c.item.new.depth (Some c.in-Some-2.read) = subst (λ (found : Option ItemForm). ItemDepth c.loop-behind.depth c.item.new.depth found) c.in-Some-2.is c.in_ok-read.ensures.depth in
           let old = c.loop-behind.invariant.depth in
@@ -411,7 +410,7 @@ pub bodies::body-loop-behind-init : goal.bodies::body-loop-behind-init
 bodies::body-loop-behind-init t c =
     let none : read_items c.new-items.result ≡ [] = ap (λ (forms : List ItemForm). map (changed_item filling) (map seen_item forms)) c.new-items.ensures.items in
     record {
-      read = body_start (seen_splitting c.args.words) (seen_fragments c.args.fragments.now) (seen_fragments c.without_end.result.now) (option_map seen_slice c.unless_empty-behind.result) (read_items c.new-items.result) c.without_end.ensures.items c.unless_empty-behind.ensures.found none;
+      read = body_start c.args.words (seen_fragments c.args.fragments.now) (seen_fragments c.without_end.result.now) (option_map seen_slice c.unless_empty-behind.result) (read_items c.new-items.result) c.without_end.ensures.items c.unless_empty-behind.ensures.found none;
       depth = let same = ap (λ (list : List ItemTree). body_depth (body_of list)) none in omega arith;
       nested = within_more _ _ c.unless_empty-behind.result c.without_end.ensures.nested c.unless_empty-behind.ensures.nested;
     }
@@ -424,31 +423,31 @@ bodies::handler_sides-returns-in_ok-copy-in-Some-clause-found t c =
     let first = read_type c.in-Some.condition in
     let second = option_map read_grown c.in_ok-handler-in-Some.handler in
     c.handler_with.ensures.found ∙ ap (λ (word : Token). handler_to word second first) c.in_ok-copy-in-Some.ensures
-    ∙ handler_found c.args.word.now (type_items (items_of (seen_fragments c.args.before.now))) (expression_items (seen_splitting c.args.words) (items_of (seen_fragments c.args.after.now))) first second (ap (option_map read_type) (sym c.in-Some.is) ∙ c.in_ok-condition.ensures.found) c.in_ok-handler-in-Some.ensures
+    ∙ handler_found c.args.word.now (type_items (items_of (seen_fragments c.args.before.now))) (expression_items c.args.words (items_of (seen_fragments c.args.after.now))) first second (ap (option_map read_type) (sym c.in-Some.is) ∙ c.in_ok-condition.ensures.found) c.in_ok-handler-in-Some.ensures
 
 pub bodies::handler_sides-returns-in-None-clause-found : goal.bodies::handler_sides-returns-in-None-clause-found
 bodies::handler_sides-returns-in-None-clause-found t c =
-    handler_fails c.args.word.now (type_items (items_of (seen_fragments c.args.before.now))) (expression_items (seen_splitting c.args.words) (items_of (seen_fragments c.args.after.now))) (ap (option_map read_type) (sym c.in-None.is) ∙ c.in_ok-condition.ensures.found)
+    handler_fails c.args.word.now (type_items (items_of (seen_fragments c.args.before.now))) (expression_items c.args.words (items_of (seen_fragments c.args.after.now))) (ap (option_map read_type) (sym c.in-None.is) ∙ c.in_ok-condition.ensures.found)
 
 pub bodies::item-returns-in-Let-clause-found : goal.bodies::item-returns-in-Let-clause-found
 bodies::item-returns-in-Let-clause-found t c =
-    IfOk-weaker c.let_sides.result _ (λ (found : Option ItemForm). option_map read_item found ≡ option_map (changed_item capping) (item_items (seen_splitting c.args.words) (items_of (seen_fragments c.args.fragments.now))))
+    IfOk-weaker c.let_sides.result _ (λ (found : Option ItemForm). option_map read_item found ≡ option_map (changed_item capping) (item_items c.args.words (items_of (seen_fragments c.args.fragments.now))))
     (λ found e. e ∙ ap (option_map (changed_item capping)) (sym c.in-Let.ensures.shape)) c.let_sides.ensures.found
 
 pub bodies::item-returns-in-Handler-clause-found : goal.bodies::item-returns-in-Handler-clause-found
 bodies::item-returns-in-Handler-clause-found t c =
-    IfOk-weaker c.handler_sides.result _ (λ (found : Option ItemForm). option_map read_item found ≡ option_map (changed_item capping) (item_items (seen_splitting c.args.words) (items_of (seen_fragments c.args.fragments.now))))
+    IfOk-weaker c.handler_sides.result _ (λ (found : Option ItemForm). option_map read_item found ≡ option_map (changed_item capping) (item_items c.args.words (items_of (seen_fragments c.args.fragments.now))))
     (λ found e. e ∙ ap (option_map (changed_item capping)) (sym c.in-Handler.ensures.shape)) c.handler_sides.ensures.found
 
 pub bodies::item-returns-in-Local-clause-found : goal.bodies::item-returns-in-Local-clause-found
 bodies::item-returns-in-Local-clause-found t c =
-    IfOk-weaker c.local.result _ (λ (found : Option ItemForm). option_map read_item found ≡ option_map (changed_item capping) (item_items (seen_splitting c.args.words) (items_of (seen_fragments c.args.fragments.now))))
+    IfOk-weaker c.local.result _ (λ (found : Option ItemForm). option_map read_item found ≡ option_map (changed_item capping) (item_items c.args.words (items_of (seen_fragments c.args.fragments.now))))
     (λ found e. e ∙ ap (option_map (changed_item capping)) (sym c.in-Local.ensures.shape)) c.local.ensures.found
 
 pub bodies::item-returns-in_ok-expression-in-Expression-clause-found : goal.bodies::item-returns-in_ok-expression-in-Expression-clause-found
 bodies::item-returns-in_ok-expression-in-Expression-clause-found t c =
     c.expression_item.ensures.found ∙ ap (option_map expression_item) c.in_ok-expression-in-Expression.ensures
-    ∙ expression_through (expression_items (seen_splitting c.args.words) (items_of (seen_fragments c.in-Expression.all.now))) ∙ ap (option_map (changed_item capping)) (sym c.in-Expression.ensures.shape)
+    ∙ expression_through (expression_items c.args.words (items_of (seen_fragments c.in-Expression.all.now))) ∙ ap (option_map (changed_item capping)) (sym c.in-Expression.ensures.shape)
 
 pub bodies::let_sides-let_with-requires : goal.bodies::let_sides-let_with-requires
 bodies::let_sides-let_with-requires t c = let deep : TargetDepth 0 c.target_items.new.depth (Some c.in-Some.target) = subst (λ (found : Option Target). TargetDepth 0 c.target_items.new.depth found) c.in-Some.is c.in_ok-target.ensures.depth in omega arith
@@ -458,11 +457,11 @@ bodies::let_sides-returns-in_ok-copy-in-Some-clause-found t c =
     let first = read_target c.in-Some.target in
     let second = option_map read_grown c.in_ok-assigned-in-Some.assigned in
     c.let_with.ensures.found ∙ ap (λ (word : Token). let_to word second first) c.in_ok-copy-in-Some.ensures
-    ∙ let_found c.args.word.now (target_items (items_of (seen_fragments c.args.before.now))) (expression_items (seen_splitting c.args.words) (items_of (seen_fragments c.args.after.now))) first second (ap (option_map read_target) (sym c.in-Some.is) ∙ c.in_ok-target.ensures.found) c.in_ok-assigned-in-Some.ensures
+    ∙ let_found c.args.word.now (target_items (items_of (seen_fragments c.args.before.now))) (expression_items c.args.words (items_of (seen_fragments c.args.after.now))) first second (ap (option_map read_target) (sym c.in-Some.is) ∙ c.in_ok-target.ensures.found) c.in_ok-assigned-in-Some.ensures
 
 pub bodies::let_sides-returns-in-None-clause-found : goal.bodies::let_sides-returns-in-None-clause-found
 bodies::let_sides-returns-in-None-clause-found t c =
-    let_fails c.args.word.now (target_items (items_of (seen_fragments c.args.before.now))) (expression_items (seen_splitting c.args.words) (items_of (seen_fragments c.args.after.now))) (ap (option_map read_target) (sym c.in-None.is) ∙ c.in_ok-target.ensures.found)
+    let_fails c.args.word.now (target_items (items_of (seen_fragments c.args.before.now))) (expression_items c.args.words (items_of (seen_fragments c.args.after.now))) (ap (option_map read_target) (sym c.in-None.is) ∙ c.in_ok-target.ensures.found)
 
 pub bodies::local-returns-clause-found : goal.bodies::local-returns-clause-found
 bodies::local-returns-clause-found t c =
@@ -527,7 +526,7 @@ bodies::local_methods-loop-behind-preserved t c =
 pub choice::alternative-returns-in_ok-trees-in-Some-clause-found : goal.choice::alternative-returns-in_ok-trees-in-Some-clause-found
 choice::alternative-returns-in_ok-trees-in-Some-clause-found t c =
     let rest = items_of (seen_fragments c.in-Some.front.rest.now) in
-    let test = expression_items nothing (items_of (seen_fragments c.in-Some.front.inner.now)) in
+    let test = expression_items splittings.Nothing (items_of (seen_fragments c.in-Some.front.inner.now)) in
     c.alternative_with.ensures.found ∙ both_are alternative_of c.in_ok-test-in-Some.ensures c.in_ok-trees-in-Some.ensures.found ∙ alternative_through test rest
     ∙ ap (λ (front : Option FoundFront). option_map capped_alternative (option_and_then alternative_behind (front_tested front))) (sym c.in-Some.is)
     ∙ ap (λ (head : Option Tested). option_map capped_alternative (option_and_then alternative_behind head)) (sym c.tested.ensures.test)
@@ -536,10 +535,10 @@ pub choice::if_statement-returns-in_ok-behind-in-Some : goal.choice::if_statemen
 choice::if_statement-returns-in_ok-behind-in-Some t c =
     let word = c.args.word.now in
     let rest = items_of (seen_fragments c.in-Some.front.rest.now) in
-    let test = expression_items nothing (items_of (seen_fragments c.in-Some.front.inner.now)) in
+    let test = expression_items splittings.Nothing (items_of (seen_fragments c.in-Some.front.inner.now)) in
     let pieces = c.in_ok-pieces-in-Some.ensures.pieces in
     read_as (option_map read_grown) c.if_with.result _ _
-    (all_are (capped_if word) c.in_ok-test-in-Some.ensures (c.in_ok-trees-in-Some.ensures.found ∙ ap (λ (found : Pieces). option_map capped_items (body_items branches found.first)) pieces) (c.in_ok-behind-in-Some.ensures ∙ ap (λ (list : List Piece). capped_others (map seen_piece list)) c.as_slice.ensures.value ∙ ap (λ (found : Pieces). capped_others found.others) pieces)
+    (all_are (capped_if word) c.in_ok-test-in-Some.ensures (c.in_ok-trees-in-Some.ensures.found ∙ ap (λ (found : Pieces). option_map capped_items (body_items splittings.Branches found.first)) pieces) (c.in_ok-behind-in-Some.ensures ∙ ap (λ (list : List Piece). capped_others (map seen_piece list)) c.as_slice.ensures.value ∙ ap (λ (found : Pieces). capped_others found.others) pieces)
     ∙ if_through word test rest
     ∙ ap (λ (front : Option FoundFront). option_map capped (option_and_then (if_items word) (front_tested front))) (sym c.in-Some.is)
     ∙ ap (λ (head : Option Tested). option_map capped (option_and_then (if_items word) head)) (sym c.tested.ensures.test))
@@ -723,7 +722,7 @@ pub expressions::after_argument-returns-in_ok-found-in-Group : goal.expressions:
 expressions::after_argument-returns-in_ok-found-in-Group t c =
     let reader = seen_passing c.args.reader in
     let fragment = seen_fragment c.args.fragment.now in
-    let bracket = seen_bracket c.in-Group.bracket in
+    let bracket = c.in-Group.bracket in
     let inner = seen_fragments c.in-Group.inner.now in
     let is : group_part bracket c.in-Group.opener.now inner ≡ part_of fragment = ap seen_part (sym c.in-Group.is) ∙ c.part_of.ensures.part in
     let found = c.in_ok-found-in-Group.found in
@@ -739,7 +738,7 @@ expressions::after_argument-returns-in_ok-found-in-Group t c =
 
 pub expressions::after_fragment-returns-in-One : goal.expressions::after_fragment-returns-in-One
 expressions::after_fragment-returns-in-One t c =
-    let words = seen_splitting c.args.words in
+    let words = c.args.words in
     let state = seen_machine c.args.machine in
     let fragment = seen_fragment c.args.fragment.now in
     let is : token_part c.in-One.token.now ≡ part_of fragment = ap seen_part (sym c.in-One.is) ∙ c.part_of.ensures.part in
@@ -748,10 +747,10 @@ expressions::after_fragment-returns-in-One t c =
 
 pub expressions::after_fragment-returns-in_ok-found-in-Group : goal.expressions::after_fragment-returns-in_ok-found-in-Group
 expressions::after_fragment-returns-in_ok-found-in-Group t c =
-    let words = seen_splitting c.args.words in
+    let words = c.args.words in
     let state = seen_machine c.args.machine in
     let fragment = seen_fragment c.args.fragment.now in
-    let bracket = seen_bracket c.in-Group.bracket in
+    let bracket = c.in-Group.bracket in
     let inner = seen_fragments c.in-Group.inner.now in
     let is : group_part bracket c.in-Group.opener.now inner ≡ part_of fragment = ap seen_part (sym c.in-Group.is) ∙ c.part_of.ensures.part in
     let found = c.in_ok-found-in-Group.found in
@@ -793,7 +792,7 @@ expressions::expression-loop-fragment-preserved t c =
     let fragments = c.args.fragments.now in
     let i = c.loop-fragment.fragment-index in
     let lt : i < length fragments = omega arith in
-    let words = seen_splitting c.args.words in
+    let words = c.args.words in
     state_read fragments i c.fragment-item.result lt c.fragment-item.is words (seen_machine c.loop-fragment.machine) (seen_machine c.in-Some.next) (after_all words (wants whole) (items_of (seen_fragments fragments))) c.loop-fragment.invariant
     (ap (option_map seen_machine) (sym c.in-Some.is) ∙ c.in_ok-next.ensures)
 
@@ -802,7 +801,7 @@ expressions::expression-returns-in-None t c =
     let fragments = c.args.fragments.now in
     let i = c.loop-fragment.fragment-index in
     let lt : i < length fragments = omega arith in
-    let words = seen_splitting c.args.words in
+    let words = c.args.words in
     all_none words (items_of (seen_fragments fragments))
     (state_fails fragments i c.fragment-item.result lt c.fragment-item.is words (seen_machine c.loop-fragment.machine) (after_all words (wants whole) (items_of (seen_fragments fragments))) c.loop-fragment.invariant
     (ap (option_map seen_machine) (sym c.in-None.is) ∙ c.in_ok-next.ensures))
@@ -812,7 +811,7 @@ expressions::expression-returns t c =
     let fragments = c.args.fragments.now in
     let i = c.loop-fragment.fragment-index in
     let past : length fragments ≤ i = omega arith in
-    let words = seen_splitting c.args.words in
+    let words = c.args.words in
     let machine = seen_machine c.loop-fragment.machine in
     read_as (option_map read_grown) c.tree.result _ _ (all_end words (items_of (seen_fragments fragments)) machine (state_end fragments i words machine (after_all words (wants whole) (items_of (seen_fragments fragments))) past c.loop-fragment.invariant)) c.tree.ensures
 
@@ -827,7 +826,7 @@ for_loops::loop_behind-for_node-requires t c = parts_deep c.for_clauses.new.dept
 pub for_loops::loop_behind-returns : goal.for_loops::loop_behind-returns
 for_loops::loop_behind-returns t c =
     let head = for_items (items_of (seen_fragments c.args.head.now)) in
-    let cuts = cut (is_splitter last_part) false (items_of (seen_fragments c.args.rest.now)) in
+    let cuts = cut (is_splitter splittings.LastPart) false (items_of (seen_fragments c.args.rest.now)) in
     let last =
     c.in_ok-last.ensures.found ∙ c.finally_piece.ensures.read
     ∙ ap (λ (others : List Piece). option_map (changed_otherwise capping) (finally_in (map seen_piece others))) c.deref.ensures.value
@@ -925,7 +924,7 @@ methods::method-returns-in_ok-items-in-Some-clause-found t c =
     let some : Some signature ≡ option_map capped_signature (signature_items items) = ap (option_map seen_signature) (sym c.in-Some.is) ∙ c.in_ok-front.ensures.front in
     c.method_of.ensures.found
     ∙ ap (λ (trees : Option (List ItemTree)). option_map (with_trees signature.parts) trees)
-    (c.in_ok-items-in-Some.ensures.found ∙ ap (λ (rest : List Item). option_map (map (changed_item capping)) (body_items nothing rest)) c.without_front.ensures.items)
+    (c.in_ok-items-in-Some.ensures.found ∙ ap (λ (rest : List Item). option_map (map (changed_item capping)) (body_items splittings.Nothing rest)) c.without_front.ensures.items)
     ∙ method_read signature items some
 
 pub methods::method-returns-in-None-clause-found : goal.methods::method-returns-in-None-clause-found
@@ -960,18 +959,18 @@ signatures::signature_front-returns-in_ok-listed-in-Some-clause-nested t c =
 pub statements::begin-returns : goal.statements::begin-returns
 statements::begin-returns t c =
     read_as (option_map read_grown) c.begin_with.result _ _
-    (ap (option_map (capped_begin c.args.word.now)) c.in_ok-trees.ensures.found ∙ begin_through c.args.word.now (body_items nothing (items_of (seen_fragments c.args.inner.now))))
+    (ap (option_map (capped_begin c.args.word.now)) c.in_ok-trees.ensures.found ∙ begin_through c.args.word.now (body_items splittings.Nothing (items_of (seen_fragments c.args.inner.now))))
     c.begin_with.ensures
 
 pub statements::guarded-returns-in_ok-trees-in-Some : goal.statements::guarded-returns-in_ok-trees-in-Some
 statements::guarded-returns-in_ok-trees-in-Some t c =
     let word = c.args.word.now in
     let rest = items_of (seen_fragments c.in-Some.front.rest.now) in
-    let test = expression_items nothing (items_of (seen_fragments c.in-Some.front.inner.now)) in
+    let test = expression_items splittings.Nothing (items_of (seen_fragments c.in-Some.front.inner.now)) in
     read_as (option_map read_grown) c.guarded_with.result _ _
-    (both_are (capped_guarded (seen_guard c.args.guard) word) c.in_ok-test-in-Some.ensures c.in_ok-trees-in-Some.ensures.found ∙ guarded_through (seen_guard c.args.guard) word test rest
-    ∙ ap (λ (front : Option FoundFront). option_map capped (option_and_then (guarded_items (seen_guard c.args.guard) word) (front_tested front))) (sym c.in-Some.is)
-    ∙ ap (λ (head : Option Tested). option_map capped (option_and_then (guarded_items (seen_guard c.args.guard) word) head)) (sym c.tested.ensures.test))
+    (both_are (capped_guarded c.args.guard word) c.in_ok-test-in-Some.ensures c.in_ok-trees-in-Some.ensures.found ∙ guarded_through c.args.guard word test rest
+    ∙ ap (λ (front : Option FoundFront). option_map capped (option_and_then (guarded_items c.args.guard word) (front_tested front))) (sym c.in-Some.is)
+    ∙ ap (λ (head : Option Tested). option_map capped (option_and_then (guarded_items c.args.guard word) head)) (sym c.tested.ensures.test))
     c.guarded_with.ensures
 
 pub statements::method_statement-returns : goal.statements::method_statement-returns

@@ -26,13 +26,12 @@ use Rattle.dy_rules.specs.Cutting.{is_splitter, is_semicolon}
 use Rattle.dy_rules.specs.Depth.{tests_depth, block_clauses_depth, body_depth, methods_depth, alternatives_depth, keys_depth}
 use Rattle.dy_rules.specs.Fragments.{items_of}
 use Rattle.dy_rules.specs.Reading.{expression_items, after_passing, nothing_passed, after_all, wants, whole}
-use Rattle.dy_rules.specs.Roles.{nothing, endings}
 use Rattle.dy_rules.specs.Signatures.{key_items}
 use Rattle.dy_rules.specs.Trees.{tests_of, block_clauses_of, body_of, methods_of, alternatives_of, keys_of}
 use Rattle.dy_tree.specs.Fragments.{seen_fragments, seen_fragment}
 use Rattle.dy_read_types.specs.Endings.{parts_before, changed_parts}
-use Rattle.dy_read_words.specs.Seen.{seen_splitting}
 use Rattle.std.proofs.Common.{◌≡◌, ◌≤◌, length, map, take, Some, max, option_map, ◌-◌, drop, ◌+◌, ◌*◌}
+use Rattle.dy_tree.specs.declared.splitters.Splitting.TheVariants as splittings
 use Rattle.dy_read_bodies.proofs.+read.Given as goal
 
 abbrev pub invariant-arms::choices_in-loop-left : goal.invariant-arms::choices_in-loop-left
@@ -46,7 +45,7 @@ decreases-arms::choices_in-loop-left l = l.left
 
 abbrev pub invariant-arms::tests-loop-behind : goal.invariant-arms::tests-loop-behind
 invariant-arms::tests-loop-behind l = record {
-  read : option_map capped_trees (tests_items (items_of (seen_fragments l.fragments))) ≡ read_before (read_tests l.trees) (option_map capped_trees (each_part is_comma_fragment (expression_items nothing) (option_map seen_slice l.behind)));
+  read : option_map capped_trees (tests_items (items_of (seen_fragments l.fragments))) ≡ read_before (read_tests l.trees) (option_map capped_trees (each_part is_comma_fragment (expression_items splittings.Nothing) (option_map seen_slice l.behind)));
   depth : l.depth ≡ max l.fn.depth (tests_depth (tests_of (read_tests l.trees)));
   nested : IsWithin (nesting (seen_fragments l.fragments)) l.behind;
 }
@@ -56,7 +55,7 @@ decreases-arms::tests-loop-behind l = left l.behind
 
 abbrev pub invariant-blocks::block_clauses-loop-separator : goal.invariant-blocks::block_clauses-loop-separator
 invariant-blocks::block_clauses-loop-separator l = record {
-  read : option_map (map (changed_clause capping)) (block_clauses_in (others_in (is_splitter endings) (seen_fragments l.fragments))) ≡ read_before (read_clauses l.clauses) (option_map (map (changed_clause capping)) (block_clauses_in (others_in (is_splitter endings) (seen_fragments l.rest))));
+  read : option_map (map (changed_clause capping)) (block_clauses_in (others_in (is_splitter splittings.Endings) (seen_fragments l.fragments))) ≡ read_before (read_clauses l.clauses) (option_map (map (changed_clause capping)) (block_clauses_in (others_in (is_splitter splittings.Endings) (seen_fragments l.rest))));
   depth : l.depth ≡ max l.fn.depth (block_clauses_depth (block_clauses_of (read_clauses l.clauses)));
   nested : nesting (seen_fragments l.rest) ≤ nesting (seen_fragments l.fragments);
 }
@@ -66,7 +65,7 @@ decreases-blocks::block_clauses-loop-separator l = length l.rest
 
 abbrev pub invariant-bodies::body-loop-behind : goal.invariant-bodies::body-loop-behind
 invariant-bodies::body-loop-behind l = record {
-  read : option_map (map (changed_item capping)) (body_items (seen_splitting l.words) (items_of (seen_fragments l.fragments))) ≡ read_before (read_items l.items) (option_map (map (changed_item capping)) (each_part is_semicolon (item_items (seen_splitting l.words)) (option_map seen_slice l.behind)));
+  read : option_map (map (changed_item capping)) (body_items l.words (items_of (seen_fragments l.fragments))) ≡ read_before (read_items l.items) (option_map (map (changed_item capping)) (each_part is_semicolon (item_items l.words) (option_map seen_slice l.behind)));
   depth : l.depth ≡ max l.fn.depth (body_depth (body_of (read_items l.items)));
   nested : IsWithin (nesting (seen_fragments l.fragments)) l.behind;
 }
@@ -110,7 +109,7 @@ invariant-expressions::arguments-loop-fragment l = SameReaders (after_passing (s
 
 abbrev pub invariant-expressions::expression-loop-fragment : goal.invariant-expressions::expression-loop-fragment
 invariant-expressions::expression-loop-fragment l =
-    SameStates (after_all (seen_splitting l.words) (seen_machine l.machine) (items_of (seen_fragments (drop l.fragment-index l.fragments)))) (after_all (seen_splitting l.words) (wants whole) (items_of (seen_fragments l.fragments)))
+    SameStates (after_all l.words (seen_machine l.machine) (items_of (seen_fragments (drop l.fragment-index l.fragments)))) (after_all l.words (wants whole) (items_of (seen_fragments l.fragments)))
 
 abbrev pub invariant-keys::several_keys-loop-division : goal.invariant-keys::several_keys-loop-division
 invariant-keys::several_keys-loop-division l =

@@ -5,9 +5,9 @@ ghost use Rattle.dy_rules.specs.Roles.{role_of};
 ghost use Rattle.dy_rules.specs.Writing as spec;
 ghost use Rattle.dy_rules.specs.SeenForms.{seen_tree};
 
-use dy_read_words::role::{Role, role_of};
-use dy_read_words::splitter::{Splitting, splits};
-use dy_tree::{Expression, LiteralForm, Token};
+use dy_read_words::role::role_of;
+use dy_read_words::splitter::splits;
+use dy_tree::{Expression, LiteralForm, Role, Splitting, Token};
 
 /// Whether a name splits some statement.
 fn splits_some(token: &Token) -> bool
@@ -56,21 +56,18 @@ pub fn splits_tree(form: &Expression) -> bool
 }
 
 /// Whether a tree is written with brackets where it is an operand.
+#[tactic(auto, using(crate::proofs::Statements::statement_operand))]
 pub fn operand_bracketed(form: &Expression) -> bool
     ensures { result ≡ spec.operand_bracketed (seen_tree form.now) }
 {
     match form {
         Expression::Assign { .. } | Expression::Unary { .. } => true,
-        Expression::Logical { .. } | Expression::Comparison { .. } => true,
-        Expression::Sum { .. } | Expression::Product { .. } | Expression::Power { .. } => true,
-        Expression::Call { .. } | Expression::Element { .. } | Expression::Member { .. } => true,
+        Expression::Operation { .. } | Expression::Call { .. } => true,
+        Expression::Element { .. } | Expression::Member { .. } => true,
         Expression::Literal(literal) => literal_bracketed(literal),
         Expression::Name(token) => splits_some(token),
         Expression::List { .. } | Expression::Vector { .. } => false,
-        Expression::Begin { .. } | Expression::Method { .. } | Expression::If { .. } => false,
-        Expression::Unless { .. } | Expression::While { .. } | Expression::Until { .. } => false,
-        Expression::Case { .. } | Expression::Select { .. } => false,
-        Expression::Block { .. } | Expression::For { .. } => false,
+        Expression::Statement(_) => false,
     }
 }
 

@@ -2,7 +2,7 @@
 
 ghost use Rattle.std.specs.Prelude.{◌≡◌, ◌++◌, OnOk};
 ghost use Rattle.dy_tree.specs.Fragments.{seen_fragments};
-ghost use Rattle.dy_writer.specs.Held.{held_arms, held_last, held_clauses, held_stop};
+ghost use Rattle.dy_rules.specs.Held.{held_arms, held_last, held_clauses, held_stop};
 ghost use Rattle.dy_writer.specs.Joined.{mark_unless};
 ghost use Rattle.dy_writer.specs.Plain.{choice_break, clause_break};
 

@@ -5,7 +5,7 @@ ghost use Rattle.dy_tree.specs.Fragments.{seen_fragments};
 ghost use Rattle.dy_rules.specs.Trees.{tests_of};
 ghost use Rattle.dy_rules.specs.Writing.{written_arm, written_arms, written_test, written_tests};
 ghost use Rattle.dy_rules.specs.SeenForms.{seen_tree};
-ghost use Rattle.dy_writer.specs.Held.{held_arm, held_arms, held_test};
+ghost use Rattle.dy_rules.specs.Held.{held_arm, held_arms, held_test};
 
 use crate::write::bodies::push_body;
 use crate::write::breaks::push_between;

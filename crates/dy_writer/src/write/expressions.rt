@@ -10,9 +10,9 @@ ghost use Rattle.dy_writer.specs.Plain.{behind_first};
 pub use crate::write::bodies::push_body;
 use crate::write::brackets::{operand_bracketed, splits_tree, unary_bracketed};
 use crate::write::breaks::push_between;
-use crate::write::leaves::{push_leaf, push_operator};
+use crate::write::leaves::push_leaf;
 use crate::write::mark::{push_mark, push_round, push_square_group, push_token};
-use crate::write::marks::push_statement;
+use crate::write::marks::{push_assigns, push_statement};
 pub use crate::write::parameters::{push_initial, push_signature};
 use crate::write::statements::{push_before_body, push_behind_body, push_main_body};
 use dy_tree::{Argument, Expression, Fragment};
@@ -60,16 +60,13 @@ fn push_bracketed(
 
 /// Adds an expression without brackets round it.
 #[cycle(write)]
+#[tactic(auto, using(crate::proofs::Statements::statement_parts))]
 fn push_plain(alloc: Global, form: &Expression, out: &mut Vec<Fragment>) -> Result<(), AllocError>
     ensures { OnOk result (seen_fragments out.new.items ≡ seen_fragments out.old.items ++ plain (seen_tree form.now)) }
 {
     match form {
         Expression::Assign { place: base, .. }
-        | Expression::Logical { left: base, .. }
-        | Expression::Comparison { left: base, .. }
-        | Expression::Sum { left: base, .. }
-        | Expression::Product { left: base, .. }
-        | Expression::Power { left: base, .. }
+        | Expression::Operation { left: base, .. }
         | Expression::Call { function: base, .. }
         | Expression::Element { object: base, .. }
         | Expression::Member { object: base, .. } => {
@@ -82,21 +79,12 @@ fn push_plain(alloc: Global, form: &Expression, out: &mut Vec<Fragment>) -> Resu
         }
         Expression::Literal(_) | Expression::Name(_) => push_leaf(alloc, form, out),
         Expression::List { .. } | Expression::Vector { .. } => push_leaf(alloc, form, out),
-        Expression::Begin { word, .. }
-        | Expression::Method { word, .. }
-        | Expression::If { word, .. }
-        | Expression::Unless { word, .. }
-        | Expression::While { word, .. }
-        | Expression::Until { word, .. }
-        | Expression::Case { word, .. }
-        | Expression::Select { word, .. }
-        | Expression::Block { word, .. }
-        | Expression::For { word, .. } => {
+        Expression::Statement(statement) => {
             let mut inner = Vec::new(alloc);
-            push_before_body(alloc, form, &mut inner)?;
-            push_main_body(alloc, form, &mut inner)?;
-            push_behind_body(alloc, form, &mut inner)?;
-            push_statement(alloc, word, inner, out)
+            push_before_body(alloc, statement, &mut inner)?;
+            push_main_body(alloc, statement, &mut inner)?;
+            push_behind_body(alloc, statement, &mut inner)?;
+            push_statement(alloc, statement.word(), inner, out)
         }
     }
 }
@@ -111,13 +99,16 @@ fn push_behind_first(
     ensures { OnOk result (seen_fragments out.new.items ≡ seen_fragments out.old.items ++ behind_first (seen_tree form.now)) }
 {
     match form {
-        Expression::Assign { value: right, .. }
-        | Expression::Logical { right, .. }
-        | Expression::Comparison { right, .. }
-        | Expression::Sum { right, .. }
-        | Expression::Product { right, .. }
-        | Expression::Power { right, .. } => {
-            push_operator(alloc, form, out)?;
+        Expression::Assign { value, .. } => {
+            push_assigns(alloc, out)?;
+            push_operand(alloc, value, out)
+        }
+        Expression::Operation {
+            operator,
+            right,
+            ..
+        } => {
+            push_token(out, operator.copy()?)?;
             push_operand(alloc, right, out)
         }
         Expression::Call { arguments, .. } => {

@@ -1,14 +1,13 @@
-//! Literals, names and binary operators.
+//! Literals and names.
 
 ghost use Rattle.std.specs.Prelude.{◌≡◌, ◌++◌, OnOk};
 ghost use Rattle.dy_tree.specs.Fragments.{seen_fragments};
 ghost use Rattle.dy_rules.specs.SeenForms.{seen_tree};
-ghost use Rattle.dy_writer.specs.Plain.{leaf, operator_between};
+ghost use Rattle.dy_writer.specs.Plain.{leaf};
 
 use crate::write::constants::{push_list, push_vector};
 use crate::write::literals::push_literal;
 use crate::write::mark::push_token;
-use crate::write::marks::push_assigns;
 use dy_tree::{Expression, Fragment};
 use std::alloc::{AllocError, Global};
 
@@ -29,25 +28,6 @@ pub fn push_leaf(
             tail,
         } => push_list(alloc, opener, items, tail, out),
         Expression::Vector { opener, items } => push_vector(alloc, opener, items, out),
-        _ => Ok(()),
-    }
-}
-
-/// Adds a binary operator, and nothing of another expression.
-pub fn push_operator(
-    alloc: Global,
-    form: &Expression,
-    out: &mut Vec<Fragment>,
-) -> Result<(), AllocError>
-    ensures { OnOk result (seen_fragments out.new.items ≡ seen_fragments out.old.items ++ operator_between (seen_tree form.now)) }
-{
-    match form {
-        Expression::Assign { .. } => push_assigns(alloc, out),
-        Expression::Logical { operator, .. }
-        | Expression::Comparison { operator, .. }
-        | Expression::Sum { operator, .. }
-        | Expression::Product { operator, .. }
-        | Expression::Power { operator, .. } => push_token(out, operator.copy()?),
         _ => Ok(()),
     }
 }

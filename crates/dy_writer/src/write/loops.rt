@@ -7,7 +7,7 @@ ghost use Rattle.dy_rules.specs.TypeWriting.{written_variable};
 ghost use Rattle.dy_rules.specs.SeenTypes.{seen_variable};
 ghost use Rattle.dy_rules.specs.Writing.{written_for, written_for_clause, written_limit, written_step, written_stop};
 ghost use Rattle.dy_rules.specs.SeenForms.{seen_for_clause, seen_initial};
-ghost use Rattle.dy_writer.specs.Held.{held_limit, held_stop, held_clauses};
+ghost use Rattle.dy_rules.specs.Held.{held_limit, held_stop, held_clauses};
 
 use crate::write::breaks::push_between;
 use crate::write::expressions::push_whole;

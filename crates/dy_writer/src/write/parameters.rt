@@ -6,7 +6,7 @@ ghost use Rattle.dy_rules.specs.Marks.{key_mark};
 ghost use Rattle.dy_rules.specs.Trees.{keys_of};
 ghost use Rattle.dy_rules.specs.Writing.{first_keys, written_all, written_initial, written_key, written_keys, written_signature};
 ghost use Rattle.dy_rules.specs.SeenForms.{seen_initial, seen_parameters};
-ghost use Rattle.dy_writer.specs.Held.{held_key, held_keys};
+ghost use Rattle.dy_rules.specs.Held.{held_key, held_keys};
 
 use crate::write::breaks::push_between;
 use crate::write::expressions::push_whole;

@@ -5,8 +5,8 @@ ghost use Rattle.dy_tree.specs.Fragments.{seen_fragments};
 ghost use Rattle.dy_rules.specs.Marks.{in_round};
 ghost use Rattle.dy_rules.specs.Trees.{alternatives_of};
 ghost use Rattle.dy_rules.specs.Writing.{written, written_alternative, written_alternatives};
-ghost use Rattle.dy_rules.specs.SeenForms.{seen_tree};
-ghost use Rattle.dy_writer.specs.Held.{held_alternative, held_last};
+ghost use Rattle.dy_rules.specs.SeenForms.{seen_statement, seen_tree};
+ghost use Rattle.dy_rules.specs.Held.{held_alternative, held_last};
 ghost use Rattle.dy_writer.specs.Plain.{before_body, main_body, behind_body, last_body};
 
 use crate::write::blocks::{push_clauses, push_exit};
@@ -17,42 +17,41 @@ use crate::write::expressions::push_whole;
 use crate::write::loops::{push_loop_clauses, push_stop};
 use crate::write::mark::{push_mark, push_round, push_word};
 use crate::write::parameters::push_signature;
-use dy_tree::{Alternative, Expression, Fragment, Item};
+use dy_tree::{Alternative, Expression, Fragment, Item, Statement};
 use std::alloc::{AllocError, Global};
 
 /// Adds what stands before the body of a statement.
 #[cycle(write)]
 pub fn push_before_body(
     alloc: Global,
-    form: &Expression,
+    statement: &Statement,
     out: &mut Vec<Fragment>,
 ) -> Result<(), AllocError>
-    ensures { OnOk result (seen_fragments out.new.items ≡ seen_fragments out.old.items ++ before_body (seen_tree form.now)) }
+    ensures { OnOk result (seen_fragments out.new.items ≡ seen_fragments out.old.items ++ before_body (seen_statement statement.now)) }
 {
-    match form {
-        Expression::If { test, .. }
-        | Expression::Unless { test, .. }
-        | Expression::While { test, .. }
-        | Expression::Until { test, .. } => push_test(alloc, test, out),
-        Expression::Select { value, test, .. } => {
+    match statement {
+        Statement::Begin { .. } | Statement::Case { .. } => Ok(()),
+        Statement::If { test, .. } | Statement::Guarded { test, .. } => {
+            push_test(alloc, test, out)
+        }
+        Statement::Select { value, test, .. } => {
             let mut inner = Vec::new(alloc);
             push_whole(alloc, value, &mut inner)?;
             push_selector(alloc, test, &mut inner)?;
             push_round(alloc, out, inner)
         }
-        Expression::Block { exit, .. } => push_exit(alloc, exit, out),
-        Expression::For { clauses, stop, .. } => {
+        Statement::Block { exit, .. } => push_exit(alloc, exit, out),
+        Statement::For { clauses, stop, .. } => {
             let mut inner = Vec::new(alloc);
             push_loop_clauses(alloc, clauses, &mut inner)?;
             push_clause_break(alloc, clauses, stop, &mut inner)?;
             push_stop(alloc, stop, &mut inner)?;
             push_round(alloc, out, inner)
         }
-        Expression::Method { parameters, .. } => {
+        Statement::Method { parameters, .. } => {
             push_signature(alloc, parameters, out)?;
             push_mark(alloc, out, b";")
         }
-        _ => Ok(()),
     }
 }
 
@@ -60,21 +59,19 @@ pub fn push_before_body(
 #[cycle(write)]
 pub fn push_main_body(
     alloc: Global,
-    form: &Expression,
+    statement: &Statement,
     out: &mut Vec<Fragment>,
 ) -> Result<(), AllocError>
-    ensures { OnOk result (seen_fragments out.new.items ≡ seen_fragments out.old.items ++ main_body (seen_tree form.now)) }
+    ensures { OnOk result (seen_fragments out.new.items ≡ seen_fragments out.old.items ++ main_body (seen_statement statement.now)) }
 {
-    match form {
-        Expression::Begin { body, .. }
-        | Expression::Method { body, .. }
-        | Expression::If { body, .. }
-        | Expression::Unless { body, .. }
-        | Expression::While { body, .. }
-        | Expression::Until { body, .. }
-        | Expression::Block { body, .. }
-        | Expression::For { body, .. } => push_body(alloc, body, out),
-        _ => Ok(()),
+    match statement {
+        Statement::Begin { body, .. }
+        | Statement::Method { body, .. }
+        | Statement::If { body, .. }
+        | Statement::Guarded { body, .. }
+        | Statement::Block { body, .. }
+        | Statement::For { body, .. } => push_body(alloc, body, out),
+        Statement::Case { .. } | Statement::Select { .. } => Ok(()),
     }
 }
 
@@ -82,13 +79,13 @@ pub fn push_main_body(
 #[cycle(write)]
 pub fn push_behind_body(
     alloc: Global,
-    form: &Expression,
+    statement: &Statement,
     out: &mut Vec<Fragment>,
 ) -> Result<(), AllocError>
-    ensures { OnOk result (seen_fragments out.new.items ≡ seen_fragments out.old.items ++ behind_body (seen_tree form.now)) }
+    ensures { OnOk result (seen_fragments out.new.items ≡ seen_fragments out.old.items ++ behind_body (seen_statement statement.now)) }
 {
-    match form {
-        Expression::If {
+    match statement {
+        Statement::If {
             alternatives,
             otherwise,
             ..
@@ -96,12 +93,12 @@ pub fn push_behind_body(
             push_alternatives(alloc, alternatives, out)?;
             push_last(alloc, otherwise, b"else", out)
         }
-        Expression::Case {
+        Statement::Case {
             arms,
             otherwise,
             ..
         }
-        | Expression::Select {
+        | Statement::Select {
             arms,
             otherwise,
             ..
@@ -110,9 +107,9 @@ pub fn push_behind_body(
             push_choice_break(alloc, arms, otherwise, out)?;
             push_last(alloc, otherwise, b"otherwise", out)
         }
-        Expression::Block { clauses, .. } => push_clauses(alloc, clauses, out),
-        Expression::For { finally, .. } => push_last(alloc, finally, b"finally", out),
-        _ => Ok(()),
+        Statement::Block { clauses, .. } => push_clauses(alloc, clauses, out),
+        Statement::For { finally, .. } => push_last(alloc, finally, b"finally", out),
+        Statement::Begin { .. } | Statement::Method { .. } | Statement::Guarded { .. } => Ok(()),
     }
 }
 

@@ -1,6 +1,6 @@
 use Rattle.std.proofs.Common.{rules}
 use Rattle.dy_tree.specs.declared.expression.Argument.TheViews.{the_lemmas}
-use Rattle.dy_read_statements.proofs.Held.{inner_items, inner_clauses}
+use Rattle.dy_rules.proofs.Held.{inner_items, inner_clauses}
 use Rattle.dy_read_bodies.proofs.blocks.block_tree.Goals as goal
 
 pub returns : goal.returns

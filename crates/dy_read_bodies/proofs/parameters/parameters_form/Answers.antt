@@ -1,6 +1,6 @@
 use Rattle.std.proofs.Common.{rules}
 use Rattle.dy_tree.specs.declared.expression.Argument.TheViews.{the_lemmas}
-use Rattle.dy_read_bodies.proofs.ParameterParts.{inner_some_keys}
+use Rattle.dy_rules.proofs.Held.{inner_some_keys}
 use Rattle.dy_read_bodies.proofs.parameters.parameters_form.Goals as goal
 
 pub returns : goal.returns

@@ -1,21 +1,22 @@
-use Rattle.std.proofs.Common.{ap, arith}
+use Rattle.std.proofs.Common.{◌≡◌, ap, arith}
 use Rattle.dy_rules.specs.Depth.{depth}
-use Rattle.dy_rules.specs.SeenForms.{seen_tree}
+use Rattle.dy_rules.specs.SeenForms.{seen_statement}
 use Rattle.dy_rules.specs.StatementReading.{case_of}
 use Rattle.dy_rules_depth.specs.Capping.{capped}
 use Rattle.dy_read_statements.specs.Arms.{read_choices}
 use Rattle.dy_read_operators.specs.Grown.{read_grown}
+use Rattle.dy_read_statements.specs.FilledInside.{filled_inside}
 use Rattle.dy_read_statements.proofs.Arms.{case_filled}
-use Rattle.dy_read_statements.proofs.Statements.{Filled, read_as}
+use Rattle.dy_read_statements.proofs.Statements.{read_as}
 use Rattle.dy_read_statements.proofs.arm_nodes.case_within.Goals as goal
 
-pub statement_within-requires-clause-depth : goal.statement_within-requires-clause-depth
-statement_within-requires-clause-depth c =
-    let made : Filled (seen_tree c.case_tree-tree.result) (case_of c.args.word.now (read_choices c.args.choices)) = case_filled (seen_tree c.case_tree-tree.result) c.args.word.now _ c.args.choices.arms c.args.choices.last c.case_tree-tree.ensures c.in_ok-copy.ensures in
-    let deep = ap depth made.inside in
+pub statement_within-requires : goal.statement_within-requires
+statement_within-requires c =
+    let made : filled_inside (seen_statement c.case_tree-tree.result) ≡ case_of c.args.word.now (read_choices c.args.choices) = case_filled (seen_statement c.case_tree-tree.result) c.args.word.now _ c.args.choices.arms c.args.choices.last c.case_tree-tree.ensures c.in_ok-copy.ensures in
+    let deep = ap depth made in
     omega (arith, c.args.choices.depth_is)
 
 pub returns : goal.returns
 returns c =
-    let made : Filled (seen_tree c.case_tree-tree.result) (case_of c.args.word.now (read_choices c.args.choices)) = case_filled (seen_tree c.case_tree-tree.result) c.args.word.now _ c.args.choices.arms c.args.choices.last c.case_tree-tree.ensures c.in_ok-copy.ensures in
-    read_as read_grown c.statement_within.result _ _ (ap capped made.inside) c.statement_within.ensures
+    let made : filled_inside (seen_statement c.case_tree-tree.result) ≡ case_of c.args.word.now (read_choices c.args.choices) = case_filled (seen_statement c.case_tree-tree.result) c.args.word.now _ c.args.choices.arms c.args.choices.last c.case_tree-tree.ensures c.in_ok-copy.ensures in
+    read_as read_grown c.statement_within.result _ _ (ap capped made) c.statement_within.ensures

@@ -8,7 +8,6 @@ use Rattle.dy_rules.specs.ConstantReading.{Inside, list_in, vector_in}
 use Rattle.dy_rules_depth.specs.Capping.{capped_constant}
 use Rattle.dy_rules_depth.proofs.Nodes.{capped_literal_item}
 use Rattle.dy_read_parts.specs.Nesting.{nesting}
-use Rattle.dy_read_words.specs.Seen.{seen_bracket}
 use Rattle.dy_read_types.specs.declared.constant_front.ConstantFront.{ConstantFront}
 use Rattle.dy_read_types.specs.declared.list_next.ListNext.{ListNext}
 use Rattle.dy_read_types.specs.declared.list_next.ListNext.TheVariants as nexts
@@ -30,19 +29,19 @@ pub group_constant-returns-in_ok-found-in-SharpRound-clause-found : goal.group_c
 group_constant-returns-in_ok-found-in-SharpRound-clause-found t c =
     let opener = c.args.opener.now in
     let inner = seen_fragments c.args.inner.now in
-    let from : option_map (capped_list opener) (option_map read_inside c.in_ok-found-in-SharpRound.found) ≡ option_map capped_constant (group_read (seen_bracket c.args.bracket) opener inner) =
+    let from : option_map (capped_list opener) (option_map read_inside c.in_ok-found-in-SharpRound.found) ≡ option_map capped_constant (group_read c.args.bracket opener inner) =
     rw c.in-SharpRound.is (ap (option_map (capped_list opener)) c.in_ok-found-in-SharpRound.ensures.found ∙ list_through opener (list_in (pack inner)))
     in
-    IfOk-weaker c.list_item.result _ (λ (found : Option ConstantForm). option_map read_constant found ≡ option_map capped_constant (group_read (seen_bracket c.args.bracket) opener inner)) (λ found e. e ∙ from) c.list_item.ensures.found
+    IfOk-weaker c.list_item.result _ (λ (found : Option ConstantForm). option_map read_constant found ≡ option_map capped_constant (group_read c.args.bracket opener inner)) (λ found e. e ∙ from) c.list_item.ensures.found
 
 pub group_constant-returns-in_ok-items-in-SharpSquare-clause-found : goal.group_constant-returns-in_ok-items-in-SharpSquare-clause-found
 group_constant-returns-in_ok-items-in-SharpSquare-clause-found t c =
     let opener = c.args.opener.now in
     let inner = seen_fragments c.args.inner.now in
-    let from : option_map (capped_vector opener) (option_map read_vector c.in_ok-items-in-SharpSquare.items) ≡ option_map capped_constant (group_read (seen_bracket c.args.bracket) opener inner) =
+    let from : option_map (capped_vector opener) (option_map read_vector c.in_ok-items-in-SharpSquare.items) ≡ option_map capped_constant (group_read c.args.bracket opener inner) =
     rw c.in-SharpSquare.is (ap (option_map (capped_vector opener)) c.in_ok-items-in-SharpSquare.ensures.found ∙ vector_through opener (vector_in (pack inner)))
     in
-    IfOk-weaker c.vector_item.result _ (λ (found : Option ConstantForm). option_map read_constant found ≡ option_map capped_constant (group_read (seen_bracket c.args.bracket) opener inner)) (λ found e. e ∙ from) c.vector_item.ensures.found
+    IfOk-weaker c.vector_item.result _ (λ (found : Option ConstantForm). option_map read_constant found ≡ option_map capped_constant (group_read c.args.bracket opener inner)) (λ found e. e ∙ from) c.vector_item.ensures.found
 
 pub list_inside-returns-in-None-clause-found : goal.list_inside-returns-in-None-clause-found
 list_inside-returns-in-None-clause-found t c =

@@ -9,7 +9,6 @@ use Rattle.dy_rules.specs.Types.{TypeTree, types_of}
 use Rattle.dy_rules.specs.Depth.{types_depth}
 use Rattle.dy_rules.specs.TypeReading.{in_front, whole_type, type_items, types_items, type_front}
 use Rattle.dy_rules.specs.Fragments.{items_of}
-use Rattle.dy_read_words.specs.Seen.{seen_type_word}
 use Rattle.dy_read_parts.specs.Nesting.{nesting}
 use Rattle.dy_read_parts.specs.Pieces.{IsWithin, behind_first, each_part, read_before, seen_slice}
 use Rattle.dy_rules_depth.specs.Capping.{capped_type}
@@ -24,16 +23,16 @@ use Rattle.dy_read_types.proofs.types.+types.Goals as goal
 
 pub form_type-returns-in_ok-types-in-Union-clause-found : goal.form_type-returns-in_ok-types-in-Union-clause-found
 form_type-returns-in_ok-types-in-Union-clause-found t c =
-    let from : option_map (capped_union c.args.word.now) (option_map seen_types c.in_ok-types-in-Union.types) ≡ option_map capped_type (form_read (seen_type_word c.args.form) c.args.word.now (seen_fragments c.args.inner.now)) =
+    let from : option_map (capped_union c.args.word.now) (option_map seen_types c.in_ok-types-in-Union.types) ≡ option_map capped_type (form_read c.args.form c.args.word.now (seen_fragments c.args.inner.now)) =
     rw c.in-Union.is (ap (option_map (capped_union c.args.word.now)) c.in_ok-types-in-Union.ensures.found ∙ union_through c.args.word.now (types_items (items_of (seen_fragments c.args.inner.now))))
     in
-    IfOk-weaker c.union.result _ (λ (found : Option TypeForm). option_map read_type found ≡ option_map capped_type (form_read (seen_type_word c.args.form) c.args.word.now (seen_fragments c.args.inner.now))) (λ found e. e ∙ from) c.union.ensures.found
+    IfOk-weaker c.union.result _ (λ (found : Option TypeForm). option_map read_type found ≡ option_map capped_type (form_read c.args.form c.args.word.now (seen_fragments c.args.inner.now))) (λ found e. e ∙ from) c.union.ensures.found
 
 pub type_front-returns-in_ok-form_type-in-Form-clause-front : goal.type_front-returns-in_ok-form_type-in-Form-clause-front
 type_front-returns-in_ok-form_type-in-Form-clause-front t c =
     let rest = items_of (seen_fragments c.in-Form.rest.now) in
     c.in_front.ensures ∙ ap (option_map (in_front rest)) c.in_ok-form_type-in-Form.ensures.found
-    ∙ in_front_changed rest (form_read (seen_type_word c.in-Form.form) c.in-Form.word.now (seen_fragments c.in-Form.inner.now))
+    ∙ in_front_changed rest (form_read c.in-Form.form c.in-Form.word.now (seen_fragments c.in-Form.inner.now))
     ∙ ap (λ (shape : SeenShape). option_map capped_front (shape_read shape)) c.in-Form.ensures.shape
     ∙ ap (option_map capped_front) (sym (shape_reads (seen_fragments c.args.fragments.now)))
 

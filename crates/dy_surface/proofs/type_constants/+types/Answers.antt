@@ -10,6 +10,7 @@ use Rattle.dy_desugar.specs.Table.{name_in}
 use Rattle.dy_rules.specs.Trees.{arguments_of}
 use Rattle.dy_surface.specs.TypeConstants.{type_in, types_in}
 use Rattle.dy_surface.proofs.Calls.{at_named, at_unnamed}
+use Rattle.dy_surface.proofs.Statements.{no_type}
 use Rattle.dy_surface.proofs.Steps.{type_found}
 use Rattle.dy_surface.proofs.type_constants.+types.Goals as goal
 
@@ -23,6 +24,9 @@ pub type_in-returns-in-None : goal.type_in-returns-in-None
 type_in-returns-in-None t c =
     let none : name_in (seen_tree c.in-Call.function.value) ≡ None = sym (c.in-None.ensures ∙ ap (λ (tree : Expression). name_in (seen_tree tree)) c.deref.ensures) in
     sym (ap (λ (tree : Expression). type_in (seen_tree tree)) c.in-Call.is ∙ at_unnamed c.in-Call.function c.in-Call.arguments none)
+
+pub type_in-returns-in_default : goal.type_in-returns-in_default
+type_in-returns-in_default t c = no_type c.args.expression.now c.in_default.not-Call c.in_default.not-Name
 
 pub types_in-loop-argument-preserved : goal.types_in-loop-argument-preserved
 types_in-loop-argument-preserved t c =

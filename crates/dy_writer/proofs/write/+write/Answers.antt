@@ -1,5 +1,6 @@
 use Rattle.std.proofs.Common.{rules, ◌≡◌, ◌++◌, List, [], ◌∷◌, ◌<◌, length, codes, map, option_map, refl, sym, ap, ◌∙◌, arith}
 use Rattle.std.proofs.Math.Logic.{⊎_elim}
+use Rattle.std.proofs.lemmas.List.{append-nil}
 use Rattle.std.proofs.lemmas.Result.{on_ok_weaker}
 use Rattle.dy_tree.specs.Fragments.{one, seen_fragments, SeenFragment}
 use Rattle.dy_tree.specs.declared.expression.Argument.TheViews.{the_lemmas}
@@ -9,16 +10,17 @@ use Rattle.dy_tree.specs.declared.expression.Parameters.{out-Parameters}
 use Rattle.dy_tree.specs.declared.fragment.Fragment.{Fragment}
 use Rattle.dy_tree.specs.declared.token.Token.{Token}
 use Rattle.dy_rules.specs.Marks.{equals_mark, handler_mark, in_round, key_mark, semicolon_mark, statement_group, word_mark}
-use Rattle.dy_rules.specs.SeenForms.{seen_tree, seen_argument, seen_item, seen_method, seen_clause, seen_for_clause, seen_parameters}
+use Rattle.dy_rules.specs.SeenForms.{seen_tree, seen_statement, seen_argument, seen_item, seen_method, seen_clause, seen_for_clause, seen_parameters}
 use Rattle.dy_rules.specs.SeenTypes.{seen_type, seen_required, seen_results}
 use Rattle.dy_rules.specs.Trees as trees
 use Rattle.dy_rules.specs.TypeWriting.{written_type, written_results, required_joined, next_joined, rest_joined}
 use Rattle.dy_rules.specs.Writing.{written, written_argument, written_arguments, written_item, written_body, written_method, written_methods, written_alternative, written_alternatives, written_arm, written_arms, written_tests, written_clause, written_clauses, written_for_clause, written_for, written_key, first_keys, written_caught, written_stop, written_signature, written_keys, written_all}
-use Rattle.dy_writer.specs.Held.{held_alternative, held_arm, held_key, held_arms, held_body, held_last, held_keys, held_clauses, held_stop}
+use Rattle.dy_rules.specs.Held.{held_alternative, held_arm, held_key, held_arms, held_body, held_last, held_keys, held_clauses, held_stop}
 use Rattle.dy_writer.specs.Plain.{behind_first, before_body, main_body, behind_body, last_body, choice_break, clause_break}
 use Rattle.dy_writer.proofs.Appends.{two_parts, three_parts}
 use Rattle.dy_writer.proofs.Joined.{first_step, items_step, parts_step}
-use Rattle.dy_writer.proofs.Links.{at_call, at_if, at_block, at_for, at_local, at_afterwards, at_cleanup, at_exception, at_method, at_keys, at_parameters, at_case, at_select, at_loop, begin_body, method_body, if_body, unless_body, while_body, until_body, block_body, for_body}
+use Rattle.dy_writer.proofs.Links.{at_call, at_if, at_block, at_for, at_local, at_afterwards, at_cleanup, at_exception, at_method, at_keys, at_parameters, at_case, at_select, at_loop, begin_body, method_body, if_body, guarded_body, block_body, for_body}
+use Rattle.dy_writer.proofs.Statements.{no_operand}
 use Rattle.dy_writer.proofs.Wholes.{arguments_joined, body_joined, methods_joined, arms_joined, tests_joined, loop_joined, keys_joined, alternatives_flat, clauses_flat}
 use Rattle.dy_writer.proofs.write.+write.Goals as goal
 
@@ -180,6 +182,12 @@ expressions::push_behind_first-returns-in_ok-push_arguments-in-Call t c =
     (λ round. round ∙ ap (λ (fs : List SeenFragment). seen_fragments c.args.out.now.items ++ in_round fs ∷ []) inner ∙ ap (λ (fs : List SeenFragment). seen_fragments c.args.out.now.items ++ fs) (sym from))
     c.push_round.ensures
 
+pub expressions::push_behind_first-returns-in_default : goal.expressions::push_behind_first-returns-in_default
+expressions::push_behind_first-returns-in_default t c =
+    let out = seen_fragments c.args.out.now.items in
+    let none = no_operand c.args.form.now c.in_default.not-Assign c.in_default.not-Operation c.in_default.not-Call c.in_default.not-Element c.in_default.not-Member in
+    sym (append-nil out) ∙ ap (λ (fragments : List SeenFragment). out ++ fragments) (sym none)
+
 pub parameters::push_keys-returns-in_ok-push_key_list-in-Some : goal.parameters::push_keys-returns-in_ok-push_key_list-in-Some
 parameters::push_keys-returns-in_ok-push_key_list-in-Some t c =
     let found = out-Keys c.in-Some.keys in
@@ -207,26 +215,26 @@ pub statements::push_behind_body-returns-in_ok-push_alternatives-in-If : goal.st
 statements::push_behind_body-returns-in_ok-push_alternatives-in-If t c =
     let alternatives = written_alternatives (trees.alternatives_of (map held_alternative c.in-If.alternatives.items)) in
     let last = last_body (codes "else") (held_last c.in-If.otherwise) in
-    let from : behind_body (seen_tree c.args.form.now) ≡ alternatives ++ last = rw c.in-If.is (at_if c.in-If.word c.in-If.test c.in-If.body c.in-If.alternatives c.in-If.otherwise) in
+    let from : behind_body (seen_statement c.args.statement.now) ≡ alternatives ++ last = rw c.in-If.is (at_if c.in-If.word c.in-If.test c.in-If.body c.in-If.alternatives c.in-If.otherwise) in
     on_ok_weaker c.push_last.result
     (λ done. two_parts (seen_fragments c.args.out.now.items) _ (seen_fragments c.push_last.new.out.items) alternatives last _ from c.in_ok-push_alternatives-in-If.ensures done)
     c.push_last.ensures
 
 pub statements::push_behind_body-returns-in-Block : goal.statements::push_behind_body-returns-in-Block
 statements::push_behind_body-returns-in-Block t c =
-    let from : behind_body (seen_tree c.args.form.now) ≡ written_clauses (trees.block_clauses_of (map seen_clause c.in-Block.clauses.items)) = rw c.in-Block.is (at_block c.in-Block.word c.in-Block.exit c.in-Block.body c.in-Block.clauses) in
+    let from : behind_body (seen_statement c.args.statement.now) ≡ written_clauses (trees.block_clauses_of (map seen_clause c.in-Block.clauses.items)) = rw c.in-Block.is (at_block c.in-Block.word c.in-Block.exit c.in-Block.body c.in-Block.clauses) in
     on_ok_weaker c.push_clauses.result (λ done. done ∙ ap (λ (fs : List SeenFragment). seen_fragments c.args.out.now.items ++ fs) (sym from)) c.push_clauses.ensures
 
 pub statements::push_behind_body-returns-in-For : goal.statements::push_behind_body-returns-in-For
 statements::push_behind_body-returns-in-For t c =
-    let from : behind_body (seen_tree c.args.form.now) ≡ last_body (codes "finally") (held_last c.in-For.finally) = rw c.in-For.is (at_for c.in-For.word c.in-For.clauses c.in-For.stop c.in-For.body c.in-For.finally) in
+    let from : behind_body (seen_statement c.args.statement.now) ≡ last_body (codes "finally") (held_last c.in-For.finally) = rw c.in-For.is (at_for c.in-For.word c.in-For.clauses c.in-For.stop c.in-For.body c.in-For.finally) in
     on_ok_weaker c.push_last-in-For.result (λ done. done ∙ ap (λ (fs : List SeenFragment). seen_fragments c.args.out.now.items ++ fs) (sym from)) c.push_last-in-For.ensures
 
 pub statements::push_behind_body-returns-in_ok-push_choice_break-in-Case : goal.statements::push_behind_body-returns-in_ok-push_choice_break-in-Case
 statements::push_behind_body-returns-in_ok-push_choice_break-in-Case t c =
     let arms = held_arms c.in-Case.arms in
     let last = held_last c.in-Case.otherwise in
-    let from : behind_body (seen_tree c.args.form.now) ≡ written_arms arms ++ (choice_break arms last ++ last_body (codes "otherwise") last) =
+    let from : behind_body (seen_statement c.args.statement.now) ≡ written_arms arms ++ (choice_break arms last ++ last_body (codes "otherwise") last) =
     ⊎_elim (λ case. rw case.1 (at_case case.0 c.in-Case.arms c.in-Case.otherwise)) (λ select. rw select.3 (at_select select.0 select.1 select.2 c.in-Case.arms c.in-Case.otherwise)) c.in-Case.is
     in
     on_ok_weaker c.push_last-in-Case.result
@@ -240,7 +248,7 @@ statements::push_before_body-returns-in_ok-push_stop-in-For t c =
     let found = held_clauses c.in-For.clauses in
     let stop = held_stop c.in-For.stop in
     let parts = written_for found ++ (clause_break found stop ++ written_stop stop) in
-    let from : before_body (seen_tree c.args.form.now) ≡ in_round parts ∷ [] = rw c.in-For.is (at_loop c.in-For.word c.in-For.clauses c.in-For.stop c.in-For.body c.in-For.finally) in
+    let from : before_body (seen_statement c.args.statement.now) ≡ in_round parts ∷ [] = rw c.in-For.is (at_loop c.in-For.word c.in-For.clauses c.in-For.stop c.in-For.body c.in-For.finally) in
     let inner : seen_fragments c.push_stop.new.out.items ≡ parts =
     three_parts (seen_fragments c.new-inner-in-For.result.items) _ _ (seen_fragments c.push_stop.new.out.items) (written_for found) (clause_break found stop) (written_stop stop) _ refl
     c.in_ok-push_loop_clauses-in-For.ensures c.in_ok-push_clause_break-in-For.ensures c.in_ok-push_stop-in-For.ensures
@@ -253,13 +261,11 @@ statements::push_before_body-returns-in_ok-push_stop-in-For t c =
 pub statements::push_main_body-returns-in-Begin : goal.statements::push_main_body-returns-in-Begin
 statements::push_main_body-returns-in-Begin t c =
     let body = c.in-Begin.body in
-    let from : main_body (seen_tree c.args.form.now) ≡ written_body (held_body body) =
+    let from : main_body (seen_statement c.args.statement.now) ≡ written_body (held_body body) =
     ⊎_elim (λ h. rw h.1 (begin_body h.0 body))
     (⊎_elim (λ h. rw h.2 (method_body h.0 h.1 body))
     (⊎_elim (λ h. rw h.4 (if_body h.0 h.1 body h.2 h.3))
-    (⊎_elim (λ h. rw h.2 (unless_body h.0 h.1 body))
-    (⊎_elim (λ h. rw h.2 (while_body h.0 h.1 body))
-    (⊎_elim (λ h. rw h.2 (until_body h.0 h.1 body)) (⊎_elim (λ h. rw h.3 (block_body h.0 h.1 body h.2)) (λ h. rw h.4 (for_body h.0 h.1 h.2 body h.3))))))))
+    (⊎_elim (λ h. rw h.3 (guarded_body h.0 h.1 h.2 body)) (⊎_elim (λ h. rw h.3 (block_body h.0 h.1 body h.2)) (λ h. rw h.4 (for_body h.0 h.1 h.2 body h.3))))))
     c.in-Begin.is
     in
     on_ok_weaker c.push_body.result (λ done. done ∙ ap (λ (fs : List SeenFragment). seen_fragments c.args.out.now.items ++ fs) (sym from)) c.push_body.ensures

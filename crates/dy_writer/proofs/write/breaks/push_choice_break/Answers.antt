@@ -3,7 +3,7 @@ use Rattle.std.proofs.lemmas.Result.{on_ok_weaker}
 use Rattle.std.specs.Bool.{◌==◌}
 use Rattle.dy_tree.specs.Fragments.{SeenFragment, seen_fragments}
 use Rattle.dy_rules.specs.Marks.{semicolon_mark}
-use Rattle.dy_writer.specs.Held.{held_arms, held_body, held_last}
+use Rattle.dy_rules.specs.Held.{held_arms, held_body, held_last}
 use Rattle.dy_writer.specs.Plain.{choice_break}
 use Rattle.dy_writer.proofs.Breaks.{arms_and_body}
 use Rattle.dy_writer.proofs.write.breaks.push_choice_break.Goals as goal

@@ -4,7 +4,7 @@ use Rattle.std.specs.Bool.{◌==◌}
 use Rattle.dy_tree.specs.Fragments.{SeenFragment, seen_fragments}
 use Rattle.dy_rules.specs.Marks.{comma_mark}
 use Rattle.dy_rules.specs.SeenForms.{seen_tree}
-use Rattle.dy_writer.specs.Held.{held_clauses, held_stop}
+use Rattle.dy_rules.specs.Held.{held_clauses, held_stop}
 use Rattle.dy_writer.specs.Plain.{clause_break}
 use Rattle.dy_writer.proofs.Breaks.{clauses_and_test}
 use Rattle.dy_writer.proofs.write.breaks.push_clause_break.Goals as goal

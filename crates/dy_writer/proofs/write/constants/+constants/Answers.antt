@@ -6,7 +6,7 @@ use Rattle.dy_rules.specs.ConstantTrees.{constants_of, tail_of}
 use Rattle.dy_rules.specs.Marks.{comma_mark, list_group, square_group}
 use Rattle.dy_rules.specs.SeenTypes.{seen_constant}
 use Rattle.dy_rules.specs.Writing.{written_constant, written_items, written_tail}
-use Rattle.dy_writer.proofs.Rows.{inner_constants, inner_tail}
+use Rattle.dy_rules.proofs.HeldTypes.{inner_constants, inner_tail}
 use Rattle.dy_writer.proofs.Lists.{items_separated}
 use Rattle.dy_writer.proofs.Separated.{separated_step, some_seen}
 use Rattle.dy_writer.proofs.write.constants.+constants.Goals as goal

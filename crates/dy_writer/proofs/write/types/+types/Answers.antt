@@ -9,7 +9,7 @@ use Rattle.dy_rules.specs.Types.{types_of}
 use Rattle.dy_rules.specs.TypeWriting.{written_type, written_types}
 use Rattle.dy_rules.specs.SeenTypes.{seen_type}
 use Rattle.dy_writer.proofs.Steps.{word_and_round}
-use Rattle.dy_writer.proofs.Rows.{inner_types}
+use Rattle.dy_rules.proofs.HeldTypes.{inner_types}
 use Rattle.dy_writer.proofs.Lists.{types_separated}
 use Rattle.dy_writer.proofs.Separated.{separated_step, some_seen}
 use Rattle.dy_writer.proofs.write.types.+types.Goals as goal
