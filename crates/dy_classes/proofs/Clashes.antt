@@ -10,7 +10,7 @@ use Rattle.dy_classes.specs.Merge.{mem, find}
 use Rattle.dy_classes.specs.Legal.{primary_at, AreUnrelated, Clash, FirstClash, AllStored}
 use Rattle.dy_classes.specs.Search.{clashes, first_pair}
 use Rattle.dy_classes.proofs.Lists.{pairs, before_first, before_last}
-use Rattle.dy_classes.proofs.Tests.{tells, mem_in, in_mem, not_mem}
+use Rattle.dy_classes.proofs.Decisions.{tells, mem_in, in_mem, not_mem}
 use Rattle.dy_classes.proofs.Pairs.{FirstPair, first_pair_some, first_pair_none}
 
 -- the four tests of a clash

@@ -10,7 +10,7 @@ use Rattle.dy_classes.specs.Orders.{lists_of}
 use Rattle.dy_classes.specs.Counters.{past, tail, one_if, occurs, tails, advanced, Clean}
 use Rattle.dy_classes.specs.Merge.{mem, ready_in, ready_in_all, ready, all_in}
 use Rattle.dy_classes.proofs.Classes.{class_tells, class_itself, class_equal}
-use Rattle.dy_classes.proofs.Tests.{tells, in_mem, mem_in}
+use Rattle.dy_classes.proofs.Decisions.{tells, in_mem, mem_in}
 
 not_zero : (n : ℕ) → nat_eq (1 + n) 0 ≡ false
 not_zero n = elim (eqb_tells (1 + n) 0) [ inl e ↦ (let f = e.1 in absurd (omega arith)) | inr e ↦ e.0 ]

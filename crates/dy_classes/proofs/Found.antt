@@ -14,7 +14,7 @@ use Rattle.dy_classes.specs.Rows.{supers_at}
 use Rattle.dy_classes.specs.Merge.{mem, added}
 use Rattle.dy_classes.specs.Counters.{one_if, count_at, AreMarked}
 use Rattle.dy_classes.proofs.Classes.{class_tells}
-use Rattle.dy_classes.proofs.Tests.{tells, mem_in, not_mem, in_mem}
+use Rattle.dy_classes.proofs.Decisions.{tells, mem_in, not_mem, in_mem}
 use Rattle.dy_classes.proofs.Runs.{left, left_falls}
 use Rattle.dy_classes.proofs.Steps.{mark_none, mark_some, added_here, added_there}
 

@@ -11,7 +11,7 @@ use Rattle.dy_term.specs.declared.rows.Program.{Program}
 use Rattle.dy_classes.specs.Lists.{In, first, next, Once}
 use Rattle.dy_classes.specs.Legal.{getters_of, getters, slots_at, Repeated}
 use Rattle.dy_classes.specs.Search.{is_generic, has_generic}
-use Rattle.dy_classes.proofs.Tests.{tells}
+use Rattle.dy_classes.proofs.Decisions.{tells}
 
 and_true : (a b : Bool) → (a && b) ≡ true → (a ≡ true) × (b ≡ true)
 and_true true b e = (refl, e)

@@ -7,7 +7,7 @@ use Rattle.dy_classes.specs.Lists.{In, first, next, Before, now, Sub, skip, Once
 use Rattle.dy_classes.specs.Orders.{Above, itself, higher, lists_of, Chosen, Order, Stored, IsCyclic}
 use Rattle.dy_classes.specs.Merge.{onto, merged, total}
 use Rattle.dy_classes.proofs.Lists.{sub_self, sub_in, sub_before, sub_trans, in_map, in_mapped, onto_in, in_onto}
-use Rattle.dy_classes.proofs.Tests.{same_or}
+use Rattle.dy_classes.proofs.Decisions.{same_or}
 use Rattle.dy_classes.proofs.Picks.{Shape, later_not}
 use Rattle.dy_classes.proofs.Runs.{Merged, merged_sound, merged_complete, chosen_once, chosen_found, chosen_sub}
 

@@ -1,9 +1,11 @@
 pub mod Clashes
 pub mod Classes
 pub mod Counters
+pub mod Decisions
 pub mod Found
 pub mod Getters
 pub mod Laws
+mod Listed
 pub mod Lists
 pub mod Moves
 pub mod Pairs
@@ -12,6 +14,5 @@ pub mod Refusals
 pub mod Runs
 pub mod Steps
 pub mod Tables
-pub mod Tests
 pub mod Turns
 pub mod Whole

@@ -7,7 +7,7 @@ use Rattle.dy_classes.proofs.Classes.{class_tells, class_itself, class_equal}
 use Rattle.dy_classes.specs.Lists.{In, first, next}
 use Rattle.dy_classes.specs.Counters.{past, tail, one_if, occurs, tails, advanced, Clean, Moving, Counted, count_at}
 use Rattle.dy_classes.specs.Merge.{mem}
-use Rattle.dy_classes.proofs.Tests.{tells, mem_in}
+use Rattle.dy_classes.proofs.Decisions.{tells, mem_in}
 use Rattle.std.proofs.lemmas.Bool.Decides.{eqb_tells}
 use Rattle.dy_classes.proofs.Counters.{past_step, clean_step, ready_out}
 

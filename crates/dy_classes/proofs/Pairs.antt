@@ -6,7 +6,7 @@ use Rattle.dy_classes.specs.Lists.{In, first, next, Before, now, later, Once}
 use Rattle.dy_classes.specs.Merge.{find}
 use Rattle.dy_classes.specs.Search.{first_pair}
 use Rattle.dy_classes.proofs.Lists.{before_first, before_last}
-use Rattle.dy_classes.proofs.Tests.{tells, in_tail, find_some, find_none}
+use Rattle.dy_classes.proofs.Decisions.{tells, in_tail, find_some, find_none}
 
 -- nothing that passes stands before the first that is found
 hits : (x b y : ClassId) (xs : List ClassId) → (In x xs → ⊥) → x ≡ b → Before y b (x ∷ xs) → ⊥

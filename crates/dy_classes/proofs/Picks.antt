@@ -7,7 +7,7 @@ use Rattle.dy_classes.specs.Lists.{In, first, next, Before, Sub}
 use Rattle.dy_classes.specs.Orders.{Admissible, Later}
 use Rattle.dy_classes.specs.Merge.{ready, find, next_of, or_else}
 use Rattle.dy_classes.proofs.Lists.{sub_in, sub_before, pairs}
-use Rattle.dy_classes.proofs.Tests.{admissible, admissible_ready, find_some, find_none}
+use Rattle.dy_classes.proofs.Decisions.{admissible, admissible_ready, find_some, find_none}
 
 -- what the choice needs of the lists
 pub record Shape (supers : ClassId → List ClassId) (lists : List (List ClassId)) (c : ClassId) : Type 0 where

@@ -7,7 +7,7 @@ use Rattle.dy_classes.specs.Lists.{In, first, next, Before, now, later, Sub, don
 use Rattle.dy_classes.specs.Orders.{Chosen}
 use Rattle.dy_classes.specs.Merge.{mem, ready, next_of, run, onto, all_listed, merged, total}
 use Rattle.dy_classes.proofs.Lists.{onto_in, in_onto, onto_once}
-use Rattle.dy_classes.proofs.Tests.{tells, mem_in, same_or, all_sound, all_complete}
+use Rattle.dy_classes.proofs.Decisions.{tells, mem_in, same_or, all_sound, all_complete}
 use Rattle.dy_classes.proofs.Picks.{Shape, Known, pick_sound, pick_none, backed_up, later_not}
 
 -- how many of a list are not listed

@@ -10,7 +10,7 @@ use Rattle.dy_base.specs.Orders.{is_class}
 use Rattle.dy_classes.specs.Lists.{In, first, next}
 use Rattle.dy_classes.specs.Merge.{mem, ready, find, or_else, next_of, run, onto, newest, total, all_in, all_listed, added}
 use Rattle.dy_classes.specs.Counters.{past, tail, occurs, one_if, tails, Counted}
-use Rattle.dy_classes.proofs.Tests.{find_some, mem_in, in_mem}
+use Rattle.dy_classes.proofs.Decisions.{find_some, mem_in, in_mem}
 use Rattle.dy_classes.proofs.Counters.{ready_counts, behind, left_none}
 
 pub in_get : (xs : List ClassId) (i : ℕ) (d : ClassId) → i < length xs → In (get_or xs i d) xs

@@ -5,7 +5,7 @@ use Rattle.dy_classes.specs.Lists.{In, first, next, Before}
 use Rattle.dy_classes.specs.Orders.{IsCyclic, lists_of, Order, Stored}
 use Rattle.dy_classes.specs.Merge.{mem, newest, onto, ready, run, all_listed, merged, total, IsMerged, IsStuck}
 use Rattle.dy_classes.proofs.Lists.{before_last}
-use Rattle.dy_classes.proofs.Tests.{ready_complete, ready_all_complete}
+use Rattle.dy_classes.proofs.Decisions.{ready_complete, ready_all_complete}
 use Rattle.dy_classes.proofs.Laws.{apart_list, merge_sound, merge_complete}
 use Rattle.dy_classes.proofs.Steps.{newest_newest}
 

@@ -1,5 +1,7 @@
--- A merge that counts: what is left of each list, and how often a class stands in the tails of that.
-use Rattle.std.specs.Prelude.{◌≡◌, ℕ, ◌+◌, ◌<◌, ◌≤◌, Bool, true, false, cond, List, [], ◌∷◌, length, nat_eq, take, drop, slice_get, slice_index, slice_index_or, Vec}
+-- A merge that counts: what is left of each list, and how often a class stands in the tails of
+-- that.
+use Rattle.std.specs.Prelude.{◌≡◌, ℕ, ◌+◌, ◌<◌, ◌≤◌, Bool, true, false, cond, List, [], ◌∷◌, length}
+use Rattle.std.specs.Prelude.{nat_eq, take, drop, slice_get, slice_index, slice_index_or, Vec}
 use Rattle.std.specs.Option.{option_map_or}
 use Rattle.std.specs.declared.alloc.Global.{Global}
 use Rattle.dy_base.specs.declared.ids.ClassId.{ClassId}
@@ -9,7 +11,8 @@ use Rattle.dy_classes.specs.Merge.{mem}
 
 -- the number of a class in rows of numbers, one row a library
 abbrev pub count_at : List (Vec ℕ Global) → ClassId → ℕ
-count_at rows class = option_map_or (λ row. slice_index row.items class.0.row) (slice_get rows class.0.library) 0
+count_at rows class = option_map_or (λ row. slice_index row.items class.0.row)
+    (slice_get rows class.0.library) 0
 
 -- how many numbers the row of a library has
 abbrev pub row_length : List (Vec ℕ Global) → ℕ → ℕ
@@ -55,20 +58,31 @@ abbrev pub Clean : List ClassId → List ClassId → Type 0
 Clean listed m = (y : ClassId) → In y (past listed m) → In y listed → ⊥
 
 -- where x is being listed, and the first j lists have moved: the place in each list where what is
--- left of it begins, and for each class how often it stands in the tails, and one more if it is listed
-pub record Moving (lists : List (List ClassId)) (listed : List ClassId) (x : ClassId) (j : ℕ) (heads : List ℕ) (counts : List (Vec ℕ Global)) : Type 0 where
+-- left of it begins, and for each class how often it stands in the tails, and one more if it is
+-- listed
+pub record Moving (lists : List (List ClassId)) (listed : List ClassId) (x : ClassId) (j : ℕ)
+    (heads : List ℕ) (counts : List (Vec ℕ Global)) : Type 0 where
   pub places : length heads ≡ length lists
-  pub count : (y : ClassId) → count_at counts y ≡ tails (x ∷ listed) y (take j lists) + tails listed y (drop j lists) + one_if (mem y listed)
+  pub count : (y : ClassId)
+      → count_at counts y ≡ tails (x ∷ listed) y (take j lists) + tails listed y
+      (drop j lists) + one_if (mem y listed)
   pub within : (k : ℕ) → k < length lists → slice_index heads k ≤ length (slice_index_or lists k [])
-  pub moved : (k : ℕ) → k < j → drop (slice_index heads k) (slice_index_or lists k []) ≡ past (x ∷ listed) (slice_index_or lists k [])
-  pub still : (k : ℕ) → j ≤ k → k < length lists → drop (slice_index heads k) (slice_index_or lists k []) ≡ past listed (slice_index_or lists k [])
+  pub moved : (k : ℕ) → k < j
+      → drop (slice_index heads k) (slice_index_or lists k []) ≡ past (x ∷ listed)
+      (slice_index_or lists k [])
+  pub still : (k : ℕ) → j ≤ k → k < length lists
+      → drop (slice_index heads k) (slice_index_or lists k []) ≡ past listed
+      (slice_index_or lists k [])
 
 -- the same between two classes
-pub record Counted (lists : List (List ClassId)) (listed : List ClassId) (heads : List ℕ) (counts : List (Vec ℕ Global)) : Type 0 where
+pub record Counted (lists : List (List ClassId)) (listed : List ClassId) (heads : List ℕ)
+    (counts : List (Vec ℕ Global)) : Type 0 where
   pub places : length heads ≡ length lists
   pub count : (y : ClassId) → count_at counts y ≡ tails listed y lists + one_if (mem y listed)
   pub within : (k : ℕ) → k < length lists → slice_index heads k ≤ length (slice_index_or lists k [])
-  pub lefts : (k : ℕ) → k < length lists → drop (slice_index heads k) (slice_index_or lists k []) ≡ past listed (slice_index_or lists k [])
+  pub lefts : (k : ℕ) → k < length lists
+      → drop (slice_index heads k) (slice_index_or lists k []) ≡ past listed
+      (slice_index_or lists k [])
   pub clean : (k : ℕ) → k < length lists → Clean listed (slice_index_or lists k [])
 
 -- the number of each class that is found is 1, and that of each other 0

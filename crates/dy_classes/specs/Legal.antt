@@ -1,6 +1,7 @@
 -- Which classes are legal: primary superclasses are related (DRM 5, "Primary and Free Classes"),
 -- and no two slots have one getter (DRM 5, "Slots").
-use Rattle.std.specs.Prelude.{◌≡◌, ℕ, Bool, true, false, List, [], ◌∷◌, ◌++◌, ◌⊎◌, map, IsTrue, Option, Some, None, slice_get}
+use Rattle.std.specs.Prelude.{◌≡◌, ℕ, Bool, true, false, List, [], ◌∷◌, ◌++◌, ◌⊎◌, map, IsTrue}
+use Rattle.std.specs.Prelude.{Option, Some, None, slice_get}
 use Rattle.std.specs.Option.{option_map_or}
 use Rattle.dy_base.specs.declared.ids.ClassId.{ClassId}
 use Rattle.dy_base.specs.declared.ids.GenericId.{GenericId}
@@ -60,7 +61,8 @@ pub record Repeated {A : Type 0} (list : List A) (x : A) : Type 0 where
 -- the row of a generic function, where it has one
 abbrev pub generic_at : Program → GenericId → Option GenericRow
 generic_at program generic =
-    option_map_or (λ library. slice_get library.generics generic.0.row) (slice_get program.libraries generic.0.library) None
+    option_map_or (λ library. slice_get library.generics generic.0.row)
+    (slice_get program.libraries generic.0.library) None
 
 -- its name
 abbrev pub generic_name : Program → GenericId → List ℕ
@@ -68,7 +70,9 @@ generic_name program generic = option_map_or (λ row. row.name) (generic_at prog
 
 -- of any two primary superclasses one is above the other, and no two slots have one getter
 pub record IsLegal (program : Program) (class : ClassId) : Type 0 where
-  pub related : (a b : ClassId) → Above (supers_at program) class a → Above (supers_at program) class b → IsTrue (primary_at program a) → IsTrue (primary_at program b)
+  pub related : (a b : ClassId) → Above (supers_at program) class a
+      → Above (supers_at program) class b → IsTrue (primary_at program a)
+      → IsTrue (primary_at program b)
       → Above (supers_at program) a b ⊎ Above (supers_at program) b a
   pub distinct : Once (getters program (order_at program class))
 
@@ -79,14 +83,18 @@ SlotRefused program class (refusals.Fault told) =
     × (told ≡ class_fault kinds.SlotClash (name_at program class ∷ generic_name program g ∷ []))
 SlotRefused program class refusals.Memory = Unit {0}
 
--- why a class is not legal: two primary superclasses are unrelated, or else two slots have one getter
+-- why a class is not legal: two primary superclasses are unrelated, or else two slots have one
+-- getter
 abbrev pub ClassRefused : Program → ClassId → Refusal → Type 0
 ClassRefused program class (refusals.Fault told) =
     ((a : ClassId) × (b : ClassId) × FirstClash program (order_at program class) a b
-    × (told ≡ class_fault kinds.TwoPrimaries (name_at program class ∷ name_at program a ∷ name_at program b ∷ [])))
-    ⊎ (((a b : ClassId) → Clash program (order_at program class) a b → ⊥) × SlotRefused program class (refusals.Fault told))
+    × (told ≡ class_fault kinds.TwoPrimaries
+    (name_at program class ∷ name_at program a ∷ name_at program b ∷ [])))
+    ⊎ (((a b : ClassId) → Clash program (order_at program class) a b → ⊥)
+    × SlotRefused program class (refusals.Fault told))
 ClassRefused program class refusals.Memory = Unit {0}
 
 -- the class and each of its superclasses stores its order
 abbrev pub AllStored : Program → ClassId → Type 0
-AllStored program class = (x : ClassId) → Above (supers_at program) class x → Order (supers_at program) (order_at program) x (order_at program x)
+AllStored program class = (x : ClassId) → Above (supers_at program) class x
+    → Order (supers_at program) (order_at program) x (order_at program x)

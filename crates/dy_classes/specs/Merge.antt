@@ -1,5 +1,6 @@
 -- The class order, computed.
-use Rattle.std.specs.Prelude.{◌≡◌, ◌⊎◌, ℕ, zero, suc, ◌+◌, Bool, true, false, cond, not, List, [], ◌∷◌, ◌++◌, length, Option, Some, None}
+use Rattle.std.specs.Prelude.{◌≡◌, ◌⊎◌, ℕ, zero, suc, ◌+◌, Bool, true, false, cond, not, List, []}
+use Rattle.std.specs.Prelude.{◌∷◌, ◌++◌, length, Option, Some, None}
 use Rattle.dy_base.specs.declared.ids.ClassId.{ClassId}
 use Rattle.dy_base.specs.Orders.{is_class}
 use Rattle.dy_classes.specs.Orders.{lists_of}
@@ -39,7 +40,8 @@ next_of supers p (z ∷ listed) = or_else (find p (supers z)) (next_of supers p 
 abbrev pub run : (ClassId → List ClassId) → List (List ClassId) → ℕ → List ClassId → List ClassId
 run supers lists zero listed = listed
 run supers lists (suc n) listed =
-    elim (next_of supers (ready lists listed) listed) as (λ _. List ClassId) [ Some x ↦ run supers lists n (x ∷ listed) | None ↦ listed ]
+    elim (next_of supers (ready lists listed) listed) as (λ _. List ClassId)
+    [ Some x ↦ run supers lists n (x ∷ listed) | None ↦ listed ]
 
 abbrev pub onto : List ClassId → List ClassId → List ClassId
 onto [] l = l
@@ -63,21 +65,25 @@ total [] = 0
 total (m ∷ ms) = length m + total ms
 
 -- the order after at most n more classes, or nothing where classes are left then
-abbrev pub merged : (ClassId → List ClassId) → List (List ClassId) → ℕ → ClassId → Option (List ClassId)
+abbrev pub merged : (ClassId → List ClassId) → List (List ClassId) → ℕ → ClassId
+    → Option (List ClassId)
 merged supers lists n c =
     let listed = run supers lists n (c ∷ []) in
     cond (all_listed lists listed) (Some (onto listed [])) None
 
 -- the merge lists l, and nothing is left
-pub record IsMerged (supers order : ClassId → List ClassId) (c : ClassId) (l : List ClassId) : Type 0 where
-  pub listed : newest l ≡ run supers (lists_of supers order c) (total (lists_of supers order c)) (c ∷ [])
+pub record IsMerged (supers order : ClassId → List ClassId) (c : ClassId)
+    (l : List ClassId) : Type 0 where
+  pub listed : newest l ≡ run supers (lists_of supers order c) (total (lists_of supers order c))
+      (c ∷ [])
   pub whole : all_listed (lists_of supers order c) (newest l) ≡ true
 
 -- c stands behind another class of a list, or the merge leaves something
 abbrev pub IsStuck : (supers order : ClassId → List ClassId) → ClassId → Type 0
 IsStuck supers order c =
     (ready (lists_of supers order c) [] c ≡ false)
-    ⊎ (all_listed (lists_of supers order c) (run supers (lists_of supers order c) (total (lists_of supers order c)) (c ∷ [])) ≡ false)
+    ⊎ (all_listed (lists_of supers order c)
+    (run supers (lists_of supers order c) (total (lists_of supers order c)) (c ∷ [])) ≡ false)
 
 -- the list with those of the others that it does not have yet
 abbrev pub added : List ClassId → List ClassId → List ClassId

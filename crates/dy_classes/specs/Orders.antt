@@ -19,7 +19,8 @@ abbrev pub lists_of : (supers order : ClassId → List ClassId) → ClassId → 
 lists_of supers order c = supers c ∷ map order (supers c)
 
 -- x is not listed so far, it is in some of the lists, and everything before it in them is listed
-pub record Admissible (lists : List (List ClassId)) (listed : List ClassId) (x : ClassId) : Type 0 where
+pub record Admissible (lists : List (List ClassId)) (listed : List ClassId)
+    (x : ClassId) : Type 0 where
   pub fresh : In x listed → ⊥
   pub found : (m : List ClassId) × In m lists × In x m
   pub ready : (m : List ClassId) → In m lists → (z : ClassId) → Before z x m → In z listed
@@ -29,8 +30,10 @@ abbrev pub Later : (ClassId → List ClassId) → List ClassId → ClassId → C
 Later supers [] x y = ⊥
 Later supers (z ∷ listed) x y = (In y (supers z) → ⊥) × (In x (supers z) ⊎ Later supers listed x y)
 
--- each class of `rest` is, in its turn, that one of the admissible classes which comes later than the others
-abbrev pub Chosen : (ClassId → List ClassId) → List (List ClassId) → List ClassId → List ClassId → Type 0
+-- each class of `rest` is, in its turn, that one of the admissible classes which comes later than
+-- the others
+abbrev pub Chosen : (ClassId → List ClassId) → List (List ClassId) → List ClassId → List ClassId
+    → Type 0
 Chosen supers lists listed [] = Unit {0}
 Chosen supers lists listed (x ∷ rest) =
     Admissible lists listed x
@@ -38,7 +41,8 @@ Chosen supers lists listed (x ∷ rest) =
     × Chosen supers lists (x ∷ listed) rest
 
 -- l is the order of c, where each direct superclass has the order that is stored
-pub record Order (supers order : ClassId → List ClassId) (c : ClassId) (l : List ClassId) : Type 0 where
+pub record Order (supers order : ClassId → List ClassId) (c : ClassId)
+    (l : List ClassId) : Type 0 where
   pub rest : List ClassId
   pub begins : l ≡ c ∷ rest
   pub once : Once l

@@ -64,7 +64,9 @@ impl ClassCounts {
     /// One more at a class. There is no place for the number of a class without a row, nor for one
     /// past `usize`.
     pub(crate) fn raise(&mut self, class: ClassId) -> Result<(), AllocError>
-        ensures { OnOk result ((other : ClassId) → count_at self.new.rows.items other ≡ one_if (is_class other class) + count_at self.old.rows.items other) }
+        ensures { OnOk result ((other : ClassId)
+            → count_at self.new.rows.items other ≡ one_if
+            (is_class other class) + count_at self.old.rows.items other) }
     {
         if !self.has(class) {
             return Err(AllocError);
@@ -82,14 +84,18 @@ impl ClassCounts {
     pub(crate) fn lower(&mut self, class: ClassId)
         requires there { HasCount self.old.rows.items class }
         requires enough { 1 ≤ count_at self.old.rows.items class }
-        ensures { (other : ClassId) → one_if (is_class other class) + count_at self.new.rows.items other ≡ count_at self.old.rows.items other }
+        ensures { (other : ClassId)
+            → one_if (is_class other class) + count_at self.new.rows.items other ≡ count_at
+            self.old.rows.items other }
     {
         self.rows[class.0.library as usize][class.0.row as usize] -= 1;
     }
 
     /// One more for each place of a list but the first.
     pub(crate) fn raise_tail(&mut self, classes: &[ClassId]) -> Result<(), AllocError>
-        ensures { OnOk result ((other : ClassId) → count_at self.new.rows.items other ≡ occurs other (tail classes.now) + count_at self.old.rows.items other) }
+        ensures { OnOk result ((other : ClassId)
+            → count_at self.new.rows.items other ≡ occurs other
+            (tail classes.now) + count_at self.old.rows.items other) }
     {
         let rest = tail_of(classes);
         for class in rest {

@@ -23,7 +23,8 @@ impl Found {
     /// Adds those of the classes that are not there.
     fn add(&mut self, classes: &[ClassId]) -> Result<(), AllocError>
         requires { AreMarked self.old.classes.items self.old.marks.rows.items }
-        ensures added { OnOk result (self.new.classes.items ≡ added self.old.classes.items classes.now) }
+        ensures added { OnOk result
+            (self.new.classes.items ≡ added self.old.classes.items classes.now) }
         ensures marked { OnOk result (AreMarked self.new.classes.items self.new.marks.rows.items) }
     {
         for class in classes {

@@ -33,7 +33,8 @@ fn shown_slot(
     class: ClassId,
     getter: GenericId,
 ) -> Result<Items<Text>, AllocError>
-    ensures { IfOk result (λ names. names ≡ name_at program.now class ∷ generic_name program.now getter ∷ []) }
+    ensures { IfOk result (λ names.
+        names ≡ name_at program.now class ∷ generic_name program.now getter ∷ []) }
 {
     let mut names = Items::new(alloc);
     names.push(Text::of(alloc, name_of(program, class))?)?;
@@ -71,7 +72,8 @@ pub(crate) fn refused_slot(
     class: ClassId,
     getter: GenericId,
 ) -> Refusal
-    ensures { IsRefused (class_fault SlotClash (name_at program.now class ∷ generic_name program.now getter ∷ [])) result }
+    ensures { IsRefused (class_fault SlotClash
+        (name_at program.now class ∷ generic_name program.now getter ∷ [])) result }
 {
     match shown_slot(alloc, program, class, getter) {
         Ok(shown) => Refusal::Fault(fault_of(alloc, Kind::SlotClash, shown)),

@@ -4,7 +4,8 @@ ghost use Rattle.std.specs.Prelude.{◌≡◌, ◌++◌, IfOk, MatchOption, Matc
 ghost use Rattle.dy_classes.specs.Lists.{Once};
 ghost use Rattle.dy_classes.specs.Rows.{order_at};
 ghost use Rattle.dy_classes.specs.Merge.{find, mem};
-ghost use Rattle.dy_classes.specs.Legal.{primary_at, slots_at, getters_of, getters, Repeated, IsLegal, SlotRefused, ClassRefused, AllStored};
+ghost use Rattle.dy_classes.specs.Legal.{primary_at, slots_at, getters_of, getters, Repeated};
+ghost use Rattle.dy_classes.specs.Legal.{IsLegal, SlotRefused, ClassRefused, AllStored};
 ghost use Rattle.dy_classes.specs.Search.{clashes, first_pair, has_generic};
 
 use crate::faults::{refused, refused_slot};
@@ -31,15 +32,14 @@ fn slots_of(program: &Program, class: ClassId) -> &[SlotRow]
     }
 }
 
-fn is_in(classes: &[ClassId], class: ClassId) -> bool
-    ensures { result ≡ mem class classes.now }
+/// Whether the order of a class lists another.
+fn lists(program: &Program, class: ClassId, other: ClassId) -> bool
+    ensures { result ≡ mem other (order_at program.now class) }
 {
-    for other in classes {
-        if class == *other {
-            return true;
-        }
+    match row_of(program, class) {
+        Some(row) => row.order.holds(other),
+        None => false,
     }
-    false
 }
 
 /// Whether both classes are primary, and neither is above the other.
@@ -52,10 +52,10 @@ fn clash(program: &Program, first: ClassId, second: ClassId) -> bool
     if !is_primary(program, second) {
         return false;
     }
-    if is_in(order_of(program, first), second) {
+    if lists(program, first, second) {
         return false;
     }
-    !is_in(order_of(program, second), first)
+    !lists(program, second, first)
 }
 
 /// The first of the others with which a class clashes.
@@ -160,7 +160,8 @@ fn check_slots(alloc: Global, program: &Program, class: ClassId) -> Result<(), R
 /// each class in the order of the text. The library and the place are left to the caller.
 pub fn check_class(alloc: Global, program: &Program, class: ClassId) -> Result<(), Refusal>
     ensures { AllStored program.now class
-        → MatchResult result (λ _. IsLegal program.now class) (λ refusal. ClassRefused program.now class refusal) }
+        → MatchResult result (λ _. IsLegal program.now class)
+        (λ refusal. ClassRefused program.now class refusal) }
 {
     match first_clash(program, order_of(program, class)) {
         Some((first, second)) => {

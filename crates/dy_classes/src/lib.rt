@@ -11,3 +11,6 @@ mod rows;
 
 pub use legal::check_class;
 pub use order::{class_order, order_laws};
+
+#[cfg(test)]
+mod tests;

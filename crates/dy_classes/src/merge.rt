@@ -1,9 +1,11 @@
 //! The merge of the orders of the direct superclasses.
 
-ghost use Rattle.std.specs.Prelude.{◌≡◌, ◌+◌, ◌<◌, ◌≤◌, [], ◌∷◌, length, drop, slice_index_or, IfOk, IfSome, OnOk, MatchOption};
+ghost use Rattle.std.specs.Prelude.{◌≡◌, ◌+◌, ◌<◌, ◌≤◌, [], ◌∷◌, length, drop, slice_index_or};
+ghost use Rattle.std.specs.Prelude.{IfOk, IfSome, OnOk, MatchOption};
 ghost use Rattle.dy_base.specs.declared.ids.ClassId.{ClassId};
 ghost use Rattle.dy_classes.specs.Rows.{supers_at, order_at, lists_at};
-ghost use Rattle.dy_classes.specs.Merge.{next_of, newest, run, all_listed, total, IsMerged, IsStuck};
+ghost use Rattle.dy_classes.specs.Merge.{next_of, newest, run, all_listed, total, IsMerged};
+ghost use Rattle.dy_classes.specs.Merge.{IsStuck};
 ghost use Rattle.dy_classes.specs.Counters.{count_at, free, occurs, tail, advanced, Counted};
 
 use crate::counts::ClassCounts;
@@ -53,10 +55,14 @@ fn total_length(program: &Program, class: ClassId) -> Option<usize>
 /// takes the new first off its count.
 fn move_head(list: &[ClassId], class: ClassId, head: usize, counts: &mut ClassCounts) -> usize
     requires within { head ≤ length list.now }
-    requires enough { (y : ClassId) → occurs y (tail (drop head list.now)) ≤ count_at counts.old.rows.items y }
+    requires enough { (y : ClassId)
+        → occurs y (tail (drop head list.now)) ≤ count_at counts.old.rows.items y }
     ensures head { drop result list.now ≡ advanced class (drop head list.now) }
     ensures bound { result ≤ length list.now }
-    ensures counts { (y : ClassId) → count_at counts.new.rows.items y + occurs y (tail (drop head list.now)) ≡ count_at counts.old.rows.items y + occurs y (tail (advanced class (drop head list.now))) }
+    ensures counts { (y : ClassId)
+        → count_at counts.new.rows.items y + occurs y
+        (tail (drop head list.now)) ≡ count_at counts.old.rows.items y + occurs y
+        (tail (advanced class (drop head list.now))) }
 {
     if head == list.len() {
         return head;
@@ -74,7 +80,9 @@ impl Merge {
     /// The state in which nothing is listed.
     fn start(alloc: Global, program: &Program, class: ClassId) -> Result<Merge, AllocError>
         ensures listed { IfOk result (λ merge. merge.listed.items ≡ []) }
-        ensures counted { IfOk result (λ merge. Counted (lists_at program.now class) [] merge.heads.items merge.counts.rows.items) }
+        ensures counted { IfOk result
+            (λ merge. Counted (lists_at program.now class)
+            [] merge.heads.items merge.counts.rows.items) }
     {
         let mut counts = ClassCounts::new(alloc, program)?;
         let supers = supers_of(program, class);
@@ -92,7 +100,8 @@ impl Merge {
 
     /// The next class: a direct superclass of the newest that has one to give.
     fn next(&self, program: &Program) -> Option<ClassId>
-        ensures { result ≡ next_of (supers_at program.now) (free self.now.counts.rows.items) (newest self.now.listed.items) }
+        ensures { result ≡ next_of (supers_at program.now) (free self.now.counts.rows.items)
+            (newest self.now.listed.items) }
     {
         let mut place = self.listed.len();
         while place > 0 {
@@ -115,9 +124,13 @@ impl Merge {
         next: ClassId,
     ) -> Result<(), AllocError>
         requires free { count_at self.old.counts.rows.items next ≡ 0 }
-        requires counted { Counted (lists_at program.now class) (newest self.old.listed.items) self.old.heads.items self.old.counts.rows.items }
-        ensures listed { OnOk result (newest self.new.listed.items ≡ next ∷ newest self.old.listed.items) }
-        ensures counted { OnOk result (Counted (lists_at program.now class) (next ∷ newest self.old.listed.items) self.new.heads.items self.new.counts.rows.items) }
+        requires counted { Counted (lists_at program.now class)
+            (newest self.old.listed.items) self.old.heads.items self.old.counts.rows.items }
+        ensures listed { OnOk result
+            (newest self.new.listed.items ≡ next ∷ newest self.old.listed.items) }
+        ensures counted { OnOk result
+            (Counted (lists_at program.now class)
+            (next ∷ newest self.old.listed.items) self.new.heads.items self.new.counts.rows.items) }
     {
         self.listed.push(next)?;
         for place in 0..self.heads.len() {
@@ -132,7 +145,8 @@ impl Merge {
 
     /// Whether nothing is left of any list.
     fn is_whole(&self, program: &Program, class: ClassId) -> bool
-        requires { Counted (lists_at program.now class) (newest self.now.listed.items) self.now.heads.items self.now.counts.rows.items }
+        requires { Counted (lists_at program.now class)
+            (newest self.now.listed.items) self.now.heads.items self.now.counts.rows.items }
         ensures { result ≡ all_listed (lists_at program.now class) (newest self.now.listed.items) }
     {
         for (place, head) in self.heads.iter().enumerate() {
@@ -145,9 +159,14 @@ impl Merge {
 
     /// Lists classes until none is free, and at most `turns` of them.
     fn run(&mut self, program: &Program, class: ClassId, turns: usize) -> Result<(), AllocError>
-        requires { Counted (lists_at program.now class) (newest self.old.listed.items) self.old.heads.items self.old.counts.rows.items }
-        ensures listed { OnOk result (newest self.new.listed.items ≡ run (supers_at program.now) (lists_at program.now class) turns (newest self.old.listed.items)) }
-        ensures counted { OnOk result (Counted (lists_at program.now class) (newest self.new.listed.items) self.new.heads.items self.new.counts.rows.items) }
+        requires { Counted (lists_at program.now class)
+            (newest self.old.listed.items) self.old.heads.items self.old.counts.rows.items }
+        ensures listed { OnOk result
+            (newest self.new.listed.items ≡ run (supers_at program.now)
+            (lists_at program.now class) turns (newest self.old.listed.items)) }
+        ensures counted { OnOk result
+            (Counted (lists_at program.now class)
+            (newest self.new.listed.items) self.new.heads.items self.new.counts.rows.items) }
     {
         for _turn in 0..turns {
             match self.next(program) {

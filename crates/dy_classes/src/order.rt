@@ -3,8 +3,8 @@
 ghost use Rattle.std.specs.Prelude.{◌≡◌, List, MatchResult};
 ghost use Rattle.dy_base.specs.declared.ids.ClassId.{ClassId};
 ghost use Rattle.dy_classes.specs.Lists.{Sub};
-ghost use Rattle.dy_classes.specs.Orders.{Above, IsCyclic, Order, Stored};
-ghost use Rattle.dy_classes.specs.Rows.{supers_at, order_at};
+ghost use Rattle.dy_classes.specs.Orders.{Above, Order};
+ghost use Rattle.dy_classes.specs.Rows.{AreStored, IsOrderOf};
 ghost use Rattle.dy_classes.specs.Faults.{OrderRefused};
 
 use crate::cyclic::is_cyclic;
@@ -31,9 +31,8 @@ pub fn class_order(
     program: &Program,
     class: ClassId,
 ) -> Result<Vec<ClassId>, Refusal>
-    ensures { ((IsCyclic (supers_at program.now) class → ⊥) → Stored (supers_at program.now) (order_at program.now) class)
-        → MatchResult result
-        (λ order. (IsCyclic (supers_at program.now) class → ⊥) × Order (supers_at program.now) (order_at program.now) class order.items)
+    ensures { AreStored program.now class → MatchResult result
+        (λ order. IsOrderOf program.now class order.items)
         (λ refusal. OrderRefused program.now class refusal) }
 {
     if is_cyclic(alloc, program, class)? {
@@ -48,7 +47,11 @@ pub fn class_order(
 /// What holds of every class precedence list.
 pub fn order_laws()
     // A class has at most one, whatever is stored.
-    ensures one { (supers order : ClassId → List ClassId) (c : ClassId) (l k : List ClassId) → Order supers order c l → Order supers order c k → l ≡ k }
-    // The list of a superclass is a subsequence.
-    ensures kept { (supers order : ClassId → List ClassId) (s x : ClassId) → ((y : ClassId) → Above supers s y → Order supers order y (order y)) → Above supers s x → Sub (order x) (order s) }
+    ensures one { (supers order : ClassId → List ClassId) (class : ClassId)
+        (list other : List ClassId) → Order supers order class list → Order supers order class other
+        → list ≡ other }
+    // Where the classes above store their orders, the list of a superclass is a subsequence.
+    ensures kept { (supers order : ClassId → List ClassId) (class upper : ClassId)
+        → ((above : ClassId) → Above supers class above → Order supers order above (order above))
+        → Above supers class upper → Sub (order upper) (order class) }
 {}

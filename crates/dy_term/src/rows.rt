@@ -2,7 +2,7 @@
 
 use crate::term::{Lambda, Term};
 use crate::types::{DyType, Params, Results};
-use dy_base::{BindingId, ClassId, GenericId, Items, Name};
+use dy_base::{BindingId, ClassId, ClassOrder, GenericId, Items, Name};
 
 /// A class.
 #[derive(Drop)]
@@ -11,7 +11,7 @@ pub struct ClassRow {
     /// The direct superclasses.
     pub supers: Items<ClassId>,
     /// The class precedence order, which begins with the class.
-    pub order: Items<ClassId>,
+    pub order: ClassOrder,
     pub is_open: bool,
     pub is_abstract: bool,
     pub is_primary: bool,

@@ -8,11 +8,13 @@ use Rattle.dy_types.specs.Members.{IsBelow}
 
 -- a class of the program, or a single value
 abbrev pub IsThere : Program → Member → Type 0
-IsThere program (Class class) = IsSome (row_in class.0.row (slice_get program.libraries class.0.library))
+IsThere program (Class class) =
+    IsSome (row_in class.0.row (slice_get program.libraries class.0.library))
 IsThere program (Single value) = Unit {0}
 IsThere program member = ⊥
 
 -- some class of the program or some single value, or one of the two, lies below both
 abbrev pub HaveCommon : Program → Member → Member → Type 0
 HaveCommon program member other =
-    (common : Member) × (((common ≡ member) ⊎ (common ≡ other)) ⊎ IsThere program common) × IsBelow program common member × IsBelow program common other
+    (common : Member) × (((common ≡ member) ⊎ (common ≡ other)) ⊎ IsThere program common)
+    × IsBelow program common member × IsBelow program common other

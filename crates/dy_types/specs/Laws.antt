@@ -14,7 +14,8 @@ use Rattle.dy_types.specs.Classes.{order_of, literal_class, integer, class_of_cl
 -- the order of a class lists what is listed in the orders of the classes that it lists
 abbrev pub AreOrdersClosed : Program → Type 0
 AreOrdersClosed program =
-    (lower class upper : ClassId) → Contains (order_of program lower) class → Contains (order_of program class) upper → Contains (order_of program lower) upper
+    (lower class upper : ClassId) → Contains (order_of program lower) class
+    → Contains (order_of program class) upper → Contains (order_of program lower) upper
 
 -- a range holds a number
 abbrev pub IsFilled : Member → Type 0
@@ -25,7 +26,8 @@ IsFilled member = Unit {0}
 abbrev pub AreFilled : DyType → Type 0
 AreFilled type = All IsFilled type.members
 
--- what `==` tells by its value: strings, lists that are not empty and vectors are objects of their own
+-- what `==` tells by its value: strings, lists that are not empty and vectors are objects of their
+-- own
 abbrev pub IsPlain : Literal-F Literal → Type 0
 IsPlain (Literal-F.Str text) = ⊥
 IsPlain (Literal-F.List items last) = ⊥

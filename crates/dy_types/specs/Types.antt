@@ -11,7 +11,8 @@ IsInstance program shape type = Any (IsInstanceOf program shape) type.members
 
 -- a type is a subtype of another: each of its members is at or below some member of the other
 abbrev pub IsSubtype : Program → DyType → DyType → Type 0
-IsSubtype program type other = All (λ member. Any (IsBelow program member) other.members) type.members
+IsSubtype program type other =
+    All (λ member. Any (IsBelow program member) other.members) type.members
 
 -- two types meet: some member of one can meet some member of the other
 abbrev pub Meet : Program → DyType → DyType → Type 0

@@ -47,7 +47,7 @@ pub(crate) fn literal_class(literal: &Literal) -> ClassId
 fn row_lists(row: &ClassRow, class: ClassId) -> bool
     ensures { IsTrue result ↔ Contains row.now.order class }
 {
-    row.order.as_slice().contains(&class)
+    row.order.holds(class)
 }
 
 fn lists(program: &Program, class: ClassId, other: ClassId) -> bool

@@ -10,7 +10,8 @@ ghost use Rattle.dy_term.specs.declared.rows.Program.{Program};
 ghost use Rattle.dy_types.specs.Members.{IsBetween, IsBelow, IsInstanceOf, CanMeet};
 ghost use Rattle.dy_types.specs.Types.{IsInstance, IsSubtype, Meet};
 ghost use Rattle.dy_types.specs.Common.{HaveCommon};
-ghost use Rattle.dy_types.specs.Laws.{AreOrdersClosed, IsFilled, AreFilled, IsArgument, number_shape};
+ghost use Rattle.dy_types.specs.Laws.{AreOrdersClosed, IsFilled, AreFilled, IsArgument};
+ghost use Rattle.dy_types.specs.Laws.{number_shape};
 
 /// What holds of types in each program. Where a class counts as above another through a third, the
 /// orders of the program's classes list what is listed in the orders of those that they list.
@@ -33,8 +34,8 @@ pub fn type_laws()
         → Meet program type other }
     ensures symmetric { (program : Program) (type other : DyType)
         → Meet program type other → Meet program other type }
-    // Two members can meet exactly where a class of the program, a single value or one of the two lies
-    // below both.
+    // Two members can meet exactly where a class of the program, a single value or one of the two
+    // lies below both.
     ensures common { (program : Program) (member other : Member)
         → IsFilled member → IsFilled other
         → CanMeet program member other ↔ HaveCommon program member other }

@@ -1,4 +1,5 @@
-//! Types as sets of members: what is an instance of one, which lies below which, and which can meet.
+//! Types as sets of members: what is an instance of one, which lies below which, and which can
+//! meet.
 #![tactic(auto)]
 
 mod classes;

@@ -1,5 +1,5 @@
 use super::*;
-use dy_base::{ClassId, Items, Ref, Text, fold};
+use dy_base::{ClassId, ClassOrder, Items, Ref, Text, fold};
 use dy_term::{ClassRow, DyType, LibraryRow, Literal, Member, Program, Shape1};
 use std::alloc::{AllocError, Global};
 use std::test::Fail;
@@ -21,7 +21,7 @@ fn row_of(alloc: Global, order: Vec<ClassId>) -> Result<ClassRow, AllocError> {
     Ok(ClassRow {
         name: fold(alloc, b"<c>".as_slice())?,
         supers: Items::new(alloc),
-        order: Items::from_vec(order),
+        order: ClassOrder::from_vec(alloc, order)?,
         is_open: false,
         is_abstract: false,
         is_primary: false,
@@ -176,7 +176,8 @@ fn pairs_of_members(rt: HostRuntime) -> Result<(), Fail> {
     Ok(())
 }
 
-// What dispatch sees of a number, a string, `#t`, the first class, an object of the last one, `#()`.
+// What dispatch sees of a number, a string, `#t`, the first class, an object of the last one,
+// `#()`.
 fn argument(number: usize) -> Shape1 {
     match number {
         0 => Shape1 {
@@ -435,8 +436,8 @@ fn drawn_type(alloc: Global, seed: &mut u64) -> Result<DyType, AllocError> {
     })
 }
 
-// No object is told to be where it is not, and none that is in the first type alone or in both refutes
-// what is told of the two.
+// No object is told to be where it is not, and none that is in the first type alone or in both
+// refutes what is told of the two.
 fn agree(program: &Program, above: &Above, first: &DyType, second: &DyType) -> bool {
     let is_below = subtype(program, first, second);
     let can_meet = meet(program, first, second);

@@ -27,8 +27,8 @@ fn meets_some(program: &Program, member: &Member, other: &DyType) -> bool
         .any(|second| can_meet(program, member, second))
 }
 
-/// Whether the first type is a subtype of the second: each of its members is at or below some member
-/// of the second (DRM 4, "Types").
+/// Whether the first type is a subtype of the second: each of its members is at or below some
+/// member of the second (DRM 4, "Types").
 pub fn subtype(program: &Program, a: &DyType, b: &DyType) -> bool
     ensures { IsTrue result ↔ IsSubtype program.now a.now b.now }
 {
@@ -48,8 +48,8 @@ pub fn instance(program: &Program, shape: &Shape1, t: &DyType) -> bool
         .any(|member| is_instance_of(program, shape, member))
 }
 
-/// Whether two types can meet: some member of the first and some member of the second can. Where it is
-/// false, no object of the program is an instance of both.
+/// Whether two types can meet: some member of the first and some member of the second can. Where it
+/// is false, no object of the program is an instance of both.
 pub fn meet(program: &Program, a: &DyType, b: &DyType) -> bool
     ensures { IsTrue result ↔ Meet program.now a.now b.now }
 {
