@@ -1,5 +1,5 @@
-//! The program `dy_count_tokens FILE`: prints how many tokens a source file has, by `lex` alone. It is there
-//! to be measured.
+//! The program `dy_count_tokens FILE`: prints how many tokens a source file has, by `lex` alone. It
+//! is there to be measured.
 #![tactic(auto)]
 
 use dy_base::Refusal;

@@ -6,10 +6,10 @@ use Rattle.std.proofs.Math.Dec.{eqb}
 use Rattle.std.proofs.lemmas.Bool.{eqb-true, le-leb, leb-true}
 use Rattle.std.proofs.lemmas.List.{take_at, drop_at, drop_all, length-append, take-append-drop}
 use Rattle.dy_lexer.specs.declared.header.Head.{Head}
-use Rattle.dy_lexer.specs.Bytes.{in_line}
+use Rattle.dy_pieces.specs.Bytes.{in_line}
 use Rattle.dy_lexer.specs.Headers.{ends_return, without_return, line_of, line_size, is_empty_line, line_read, start, Opened, opened, header_from, Line, AllIn, IsLine, Lines, ends, empty, goes, lines_read, IsHeader}
 use Rattle.dy_lexer.specs.Sources.{header_of}
-use Rattle.dy_lexer.proofs.Lists.{same_text}
+use Rattle.dy_pieces.proofs.Lists.{same_text}
 use Rattle.dy_lexer.proofs.Opening.{header_end, header_ends, header_goes}
 
 -- ---- one line

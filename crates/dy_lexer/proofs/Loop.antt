@@ -6,8 +6,8 @@ use Rattle.dy_base.specs.declared.fault.Fault.{Fault}
 use Rattle.dy_base.specs.declared.fault.Refusal.{Refusal}
 use Rattle.dy_base.specs.declared.fault.Refusal.TheVariants as refusals
 use Rattle.dy_tree.specs.declared.token.Token.{Token}
-use Rattle.dy_lexer.specs.declared.class.Piece.{Piece}
-use Rattle.dy_lexer.specs.Pieces.{piece_at}
+use Rattle.dy_pieces.specs.declared.class.Piece.{Piece}
+use Rattle.dy_pieces.specs.Pieces.{piece_at}
 use Rattle.dy_lexer.specs.Tokens.{Tokens, Fails, fault_at, token_at, before, after_token, after_piece, tokens_of, with_token, with_tokens, added_piece, joined_after}
 
 abbrev pub place : ℕ → ℕ → Place

@@ -1,11 +1,11 @@
 -- Where no name begins.
 use Rattle.std.proofs.Common.{◌≡◌, ℕ, ◌+◌, ◌-◌, ◌<◌, List, length, get_or, drop, None, refl, ap, ◌∙◌, below_more, arith}
 use Rattle.std.proofs.lemmas.List.{drop-drop}
-use Rattle.dy_lexer.specs.declared.class.Class.TheVariants.{Graphic}
-use Rattle.dy_lexer.specs.Bytes.{class_of}
-use Rattle.dy_lexer.specs.Scan.{plus}
-use Rattle.dy_lexer.specs.Pieces.{name_len, IsNameless}
-use Rattle.dy_lexer.proofs.Steps.{plus_plus, at_drop}
+use Rattle.dy_pieces.specs.declared.class.Class.TheVariants.{Graphic}
+use Rattle.dy_pieces.specs.Bytes.{class_of}
+use Rattle.dy_pieces.specs.Scan.{plus}
+use Rattle.dy_pieces.specs.Pieces.{name_len, IsNameless}
+use Rattle.dy_pieces.proofs.Steps.{plus_plus, at_drop}
 
 -- up to i there are graphic characters alone
 abbrev pub IsGraphicTo : ℕ → List ℕ → Type 0

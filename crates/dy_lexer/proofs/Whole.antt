@@ -3,13 +3,13 @@ use Rattle.std.proofs.Common.{◌≡◌, ℕ, zero, suc, ◌+◌, ◌≤◌, Lis
 use Rattle.std.proofs.lemmas.List.{take_at, drop_at, length-append}
 use Rattle.dy_base.specs.declared.fault.Fault.{Fault}
 use Rattle.dy_tree.specs.declared.token.Token.{Token}
-use Rattle.dy_lexer.specs.declared.class.Piece.{Piece}
-use Rattle.dy_lexer.specs.Pieces.{Found, piece_at}
+use Rattle.dy_pieces.specs.declared.class.Piece.{Piece}
+use Rattle.dy_pieces.specs.Pieces.{Found, piece_at}
 use Rattle.dy_lexer.specs.Tokens.{Tokens, fault_at, token_at, before, after_token, after_piece, tokens_of}
-use Rattle.dy_lexer.specs.Forms.{IsBroken, Begins}
+use Rattle.dy_pieces.specs.Forms.{IsBroken, Begins}
 use Rattle.dy_lexer.specs.Cut.{place_of, and_tokens, Cut, ends, goes, Broken, here, value, later, Judged}
-use Rattle.dy_lexer.proofs.Heads.{Within, Best, Answers}
-use Rattle.dy_lexer.proofs.Munch.{munch, some_piece, exact, fault_some, exact_fault}
+use Rattle.dy_pieces.proofs.Heads.{Within, Best, Answers}
+use Rattle.dy_pieces.proofs.Munch.{munch, some_piece, exact, fault_some, exact_fault}
 use Rattle.dy_lexer.proofs.Loop.{tokens_step}
 
 begins_of : (k : Piece) (n : ℕ) (text : List ℕ) (best : Best k n text) → Begins k best.piece best.rest

@@ -1,5 +1,8 @@
--- Headers of source files and of LID files (DRM 2, "Dylan interchange format"; own in the parts that are marked so).
-use Rattle.std.specs.Prelude.{◌≡◌, ℕ, zero, suc, ◌+◌, ◌-◌, ◌<◌, ◌⊎◌, Bool, true, false, ◌&&◌, ◌||◌, ◌==◌, nat_le, nat_lt, if◌then◌else◌, List, [], ◌∷◌, ◌++◌, take, drop, length, codes, Option, Some, None}
+-- Headers of source files and of LID files (DRM 2, "Dylan interchange format"; own in the parts
+-- that are marked so).
+use Rattle.std.specs.Prelude.{◌≡◌, ℕ, zero, suc, ◌+◌, ◌-◌, ◌<◌, ◌⊎◌, Bool, true, false, ◌&&◌, ◌||◌}
+use Rattle.std.specs.Prelude.{◌==◌, nat_le, nat_lt, if◌then◌else◌, List, [], ◌∷◌, ◌++◌, take, drop}
+use Rattle.std.specs.Prelude.{length, codes, Option, Some, None}
 use Rattle.std.specs.List.{prefix_len, list_all}
 use Rattle.dy_base.specs.Folding.{folded}
 use Rattle.dy_lexer.specs.declared.header.Key.{Key}
@@ -7,8 +10,8 @@ use Rattle.dy_lexer.specs.declared.header.Key.TheVariants as keys
 use Rattle.dy_lexer.specs.declared.header.Within.{Within}
 use Rattle.dy_lexer.specs.declared.header.Within.TheVariants as in_
 use Rattle.dy_lexer.specs.declared.header.Head.{Head}
-use Rattle.dy_lexer.specs.Bytes.{is_letter, is_digit, is_blank, in_line}
-use Rattle.dy_lexer.specs.Words.{is_same}
+use Rattle.dy_pieces.specs.Bytes.{is_letter, is_digit, is_blank, in_line}
+use Rattle.dy_pieces.specs.Words.{is_same}
 
 -- ---- lines
 
@@ -20,11 +23,13 @@ without_return line = if ends_return line then take (length line - 1) line else 
 
 -- the line at the front without its end, which is LF or CR LF
 abbrev pub line_of : List ℕ → List ℕ
-line_of text = if nat_lt (prefix_len in_line text) (length text) then without_return (take (prefix_len in_line text) text) else text
+line_of text = if nat_lt (prefix_len in_line text) (length text)
+    then without_return (take (prefix_len in_line text) text) else text
 
 -- the length of the line at the front with its end
 abbrev pub line_size : List ℕ → ℕ
-line_size text = if nat_lt (prefix_len in_line text) (length text) then prefix_len in_line text + 1 else prefix_len in_line text
+line_size text = if nat_lt (prefix_len in_line text) (length text) then prefix_len in_line text + 1
+    else prefix_len in_line text
 
 abbrev pub is_indent : ℕ → Bool
 is_indent b = if b == 32 then true else if b == 9 then true else false
@@ -55,7 +60,8 @@ key_before false n rest = None
 
 abbrev pub key_len : List ℕ → Option ℕ
 key_len [] = None
-key_len (b ∷ bs) = key_before (is_letter b) (1 + prefix_len in_key bs) (drop (prefix_len in_key bs) bs)
+key_len (b ∷ bs) = key_before (is_letter b) (1 + prefix_len in_key bs)
+    (drop (prefix_len in_key bs) bs)
 
 -- where the last byte that is no blank ends, of bytes that begin at i
 abbrev pub kept : ℕ → ℕ → List ℕ → ℕ
@@ -64,7 +70,8 @@ kept end i (b ∷ bs) = kept (if is_blank b then end else i + 1) (i + 1) bs
 
 -- without the blanks at both ends
 abbrev pub trimmed : List ℕ → List ℕ
-trimmed bytes = take (kept 0 0 (drop (prefix_len is_blank bytes) bytes)) (drop (prefix_len is_blank bytes) bytes)
+trimmed bytes = take (kept 0 0 (drop (prefix_len is_blank bytes) bytes))
+    (drop (prefix_len is_blank bytes) bytes)
 
 abbrev pub is_printable : List ℕ → Bool
 is_printable [] = true
@@ -84,7 +91,8 @@ file_name bytes = if ends_dylan bytes then bytes else bytes ++ codes ".dylan"
 
 -- which key a line has, in a LID file or in a source file
 abbrev pub lid_key : List ℕ → Key
-lid_key key = if is_same (codes "library") key then keys.Library else if is_same (codes "files") key then keys.Files else keys.Other
+lid_key key = if is_same (codes "library") key then keys.Library
+    else if is_same (codes "files") key then keys.Files else keys.Other
 
 abbrev pub source_key : List ℕ → Key
 source_key key = if is_same (codes "module") key then keys.Module else keys.Other
@@ -112,7 +120,8 @@ faulted head at = record head { within = in_.Other; fault = first_fault head.fau
 abbrev pub named_file : Head → ℕ → List (List ℕ) → List ℕ → Head
 named_file head at names [] = record head { files = Some names; within = in_.Files }
 named_file head at names (b ∷ bs) =
-    if is_printable (b ∷ bs) then record head { files = Some (names ++ file_name (b ∷ bs) ∷ []); within = in_.Files }
+    if is_printable (b ∷ bs) then record head
+    { files = Some (names ++ file_name (b ∷ bs) ∷ []); within = in_.Files }
     else record head { files = Some names; within = in_.Files; fault = first_fault head.fault at }
 
 -- the value of the wanted name begins
@@ -172,8 +181,10 @@ abbrev pub header_from : Bool → ℕ → Head → ℕ → List ℕ → Opened
 header_from lid zero head at text = opened head at text
 header_from lid (suc n) head at [] = opened head at []
 header_from lid (suc n) head at (b ∷ bs) =
-    if is_empty_line (line_of (b ∷ bs)) then opened head (at + line_size (b ∷ bs)) (drop (line_size (b ∷ bs)) (b ∷ bs))
-    else header_from lid n (line_read lid head at (line_of (b ∷ bs))) (at + line_size (b ∷ bs)) (drop (line_size (b ∷ bs)) (b ∷ bs))
+    if is_empty_line (line_of (b ∷ bs))
+    then opened head (at + line_size (b ∷ bs)) (drop (line_size (b ∷ bs)) (b ∷ bs))
+    else header_from lid n (line_read lid head at (line_of (b ∷ bs))) (at + line_size (b ∷ bs))
+    (drop (line_size (b ∷ bs)) (b ∷ bs))
 
 -- ---- the header as a relation on lines
 
@@ -192,14 +203,20 @@ abbrev pub IsLine : List ℕ → ℕ → List ℕ → List ℕ → Type 0
 IsLine text size line rest =
     AllIn in_line line
     × (((text ≡ line ++ 10 ∷ rest) × (size ≡ length line + 1) × (ends_return line ≡ false))
-    ⊎ (((text ≡ line ++ 13 ∷ 10 ∷ rest) × (size ≡ length line + 2)) ⊎ ((text ≡ line) × (size ≡ length line) × (rest ≡ []))))
+    ⊎ (((text ≡ line ++ 13 ∷ 10 ∷ rest) × (size ≡ length line + 2))
+    ⊎ ((text ≡ line) × (size ≡ length line) × (rest ≡ []))))
 
--- from an offset on the text is the lines of a header, up to an empty line or the end; where its body begins, and the body
+-- from an offset on the text is the lines of a header, up to an empty line or the end; where its
+-- body begins, and the body
 pub data Lines : ℕ → List ℕ → List Line → ℕ → List ℕ → Type 0 where
   ends : (at : ℕ) → Lines at [] [] at []
-  empty : (at : ℕ) (text line body : List ℕ) (size end : ℕ) → 0 < length text → IsLine text size line body → is_empty_line line ≡ true → end ≡ at + size → Lines at text [] end body
-  goes : (at : ℕ) (text line rest : List ℕ) (size : ℕ) (lines all : List Line) (end : ℕ) (body : List ℕ)
-      → 0 < length text → IsLine text size line rest → is_empty_line line ≡ false → Lines (at + size) rest lines end body
+  empty : (at : ℕ) (text line body : List ℕ) (size end : ℕ) → 0 < length text
+      → IsLine text size line body → is_empty_line line ≡ true → end ≡ at + size
+      → Lines at text [] end body
+  goes : (at : ℕ) (text line rest : List ℕ) (size : ℕ) (lines all : List Line) (end : ℕ)
+      (body : List ℕ)
+      → 0 < length text → IsLine text size line rest → is_empty_line line ≡ false
+      → Lines (at + size) rest lines end body
       → all ≡ record { at = at; bytes = line } ∷ lines → Lines at text all end body
 
 -- the lines in order
@@ -209,4 +226,5 @@ lines_read lid head (line ∷ lines) = lines_read lid (line_read lid head line.a
 
 -- the header of a whole file
 abbrev pub IsHeader : Bool → List ℕ → Head → ℕ → List ℕ → Type 0
-IsHeader lid text head at body = (lines : List Line) × Lines 0 text lines at body × (head ≡ lines_read lid start lines)
+IsHeader lid text head at body = (lines : List Line) × Lines 0 text lines at body
+    × (head ≡ lines_read lid start lines)

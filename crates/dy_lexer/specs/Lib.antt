@@ -1,12 +1,4 @@
-pub mod Bytes
-pub mod Words
-pub mod Scan
-pub mod Characters
-pub mod Enclosed
-pub mod Literals
-pub mod Pieces
 pub mod Tokens
 pub mod Headers
-pub mod Forms
 pub mod Cut
 pub mod Sources

@@ -1,5 +1,6 @@
 -- What a source file and a LID file say.
-use Rattle.std.specs.Prelude.{◌≡◌, ℕ, ◌⊎◌, Bool, true, false, List, [], length, Result, Ok, Err, Option, Some, None}
+use Rattle.std.specs.Prelude.{◌≡◌, ℕ, ◌⊎◌, Bool, true, false, List, [], length, Result, Ok, Err}
+use Rattle.std.specs.Prelude.{Option, Some, None}
 use Rattle.dy_base.specs.Folding.{folded}
 use Rattle.dy_base.specs.declared.kind.Kind.TheVariants.{BadHeader}
 use Rattle.dy_base.specs.declared.fault.Fault.{Fault}
@@ -17,7 +18,8 @@ use Rattle.dy_lexer.specs.Headers.{trimmed, start, Opened, header_from, IsHeader
 abbrev pub header_of : Bool → List ℕ → Opened
 header_of lid text = header_from lid (length text) start 0 text
 
--- the value that is wanted, or the line with the first fault: the first line where the key is missing
+-- the value that is wanted, or the line with the first fault: the first line where the key is
+-- missing
 abbrev pub wanted : Option (List ℕ) → Option ℕ → Result (List ℕ) ℕ
 wanted None fault = Err 0
 wanted (Some value) (Some at) = Err at
@@ -37,12 +39,14 @@ with_module file (Ok name) (Ok tokens) = Ok (source name tokens)
 with_module file (Ok name) (Err f) = Err f
 
 abbrev pub source_after : ℕ → Opened → Result Source Fault
-source_after file o = with_module file (wanted o.head.name o.head.fault) (joined_after [] (tokens_of (length o.body) file o.at o.body))
+source_after file o = with_module file (wanted o.head.name o.head.fault)
+    (joined_after [] (tokens_of (length o.body) file o.at o.body))
 
 abbrev pub source_of : ℕ → List ℕ → Result Source Fault
 source_of file text = source_after file (header_of false text)
 
--- the header gives the module, and the text after it is cut into pieces with these tokens, adjacent strings joined
+-- the header gives the module, and the text after it is cut into pieces with these tokens, adjacent
+-- strings joined
 pub record IsSource (file : ℕ) (text : List ℕ) (s : Source) : Type 0 where
   pub head : Head
   pub at : ℕ
@@ -102,7 +106,8 @@ placed file (Ok x) = Ok x
 placed file (Err at) = Err (header_fault file at)
 
 abbrev pub lid_of : List ℕ → Result Lid Fault
-lid_of text = placed 0 (lid_from (header_of true text).head.name (header_of true text).head.files (header_of true text).head.fault)
+lid_of text = placed 0 (lid_from (header_of true text).head.name (header_of true text).head.files
+    (header_of true text).head.fault)
 
 -- the header gives the library and the file names
 pub record IsLid (text : List ℕ) (l : Lid) : Type 0 where

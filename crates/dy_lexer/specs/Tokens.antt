@@ -1,5 +1,7 @@
 -- The tokens of pieces, and of a text.
-use Rattle.std.specs.Prelude.{◌≡◌, ℕ, ℤ, pos, zero, suc, ◌+◌, ◌-◌, ◌*◌, Bool, true, false, ◌&&◌, ◌==◌, nat_lt, if◌then◌else◌, List, [], ◌∷◌, ◌++◌, take, drop, length, Result, Ok, Err, Option, Some, None}
+use Rattle.std.specs.Prelude.{◌≡◌, ℕ, ℤ, pos, zero, suc, ◌+◌, ◌-◌, Bool, true, false, ◌&&◌, ◌==◌}
+use Rattle.std.specs.Prelude.{if◌then◌else◌, List, [], ◌∷◌, ◌++◌, take, drop, length, Result, Ok}
+use Rattle.std.specs.Prelude.{Err, Option, Some, None}
 use Rattle.dy_base.specs.Folding.{folded}
 use Rattle.dy_base.specs.declared.kind.Kind.{Kind}
 use Rattle.dy_base.specs.declared.kind.Kind.TheVariants.{BadLiteral, WideInteger}
@@ -8,20 +10,25 @@ use Rattle.dy_base.specs.declared.fault.Fault.{Fault}
 use Rattle.dy_base.specs.declared.fault.Refusal.{Refusal}
 use Rattle.dy_base.specs.declared.fault.Refusal.TheVariants as refusals
 use Rattle.dy_tree.specs.declared.token.TokenKind.{TokenKind}
-use Rattle.dy_tree.specs.declared.token.TokenKind.TheVariants.{Name, Escaped, Symbol, Int, Char, Str, Mark, PatternVar, CallSite, Operator, Punctuation}
+use Rattle.dy_tree.specs.declared.token.TokenKind.TheVariants.{Name, Escaped, Symbol, Int, Char}
+use Rattle.dy_tree.specs.declared.token.TokenKind.TheVariants.{Str, Mark, PatternVar, CallSite}
+use Rattle.dy_tree.specs.declared.token.TokenKind.TheVariants.{Operator, Punctuation}
 use Rattle.dy_tree.specs.declared.token.Token.{Token}
-use Rattle.dy_lexer.specs.declared.class.Piece.{Piece}
-use Rattle.dy_lexer.specs.declared.class.Piece.TheVariants as pieces
-use Rattle.dy_lexer.specs.Bytes.{is_letter, is_digit, digit_of, base_of}
-use Rattle.dy_lexer.specs.Scan.{decoded}
-use Rattle.dy_lexer.specs.Pieces.{Found, piece_at}
+use Rattle.dy_pieces.specs.declared.class.Piece.{Piece}
+use Rattle.dy_pieces.specs.declared.class.Piece.TheVariants as pieces
+use Rattle.dy_pieces.specs.Bytes.{is_letter, is_digit}
+use Rattle.dy_pieces.specs.Numbers.{fitting, value_of}
+use Rattle.dy_pieces.specs.Scan.{decoded}
+use Rattle.dy_pieces.specs.Pieces.{Found, piece_at}
 
 -- a fault at a place, whose subject is written later
 abbrev pub fault_at : Kind → Place → Fault
-fault_at kind place = record { kind = kind; library = []; place = Some place; shown = []; numbers = [] }
+fault_at kind place = record
+    { kind = kind; library = []; place = Some place; shown = []; numbers = [] }
 
 abbrev pub token : TokenKind → List ℕ → ℤ → Place → Token
-token kind text number place = record { kind = kind; text = text; number = number; place = place; origin = 0; «module» = 0 }
+token kind text number place =
+    record { kind = kind; text = text; number = number; place = place; origin = 0; «module» = 0 }
 
 abbrev pub OneToken : Type 0
 OneToken = Result Token Fault
@@ -40,40 +47,17 @@ begins_digit (b ∷ bs) = is_digit b
 -- no integer stands directly before a letter, an underscore, or a point with a digit
 abbrev pub runs_on : List ℕ → Bool
 runs_on [] = false
-runs_on (b ∷ bs) = if is_letter b then true else if b == 95 then true else if b == 46 then begins_digit bs else false
-
-abbrev pub or_zero : Option ℕ → ℕ
-or_zero (Some n) = n
-or_zero None = 0
-
--- the number that the digits give after n
-abbrev pub value_from : ℕ → ℕ → List ℕ → ℕ
-value_from base n [] = n
-value_from base n (b ∷ bs) = value_from base (n * base + or_zero (digit_of b)) bs
-
-abbrev pub value_after_base : Option ℕ → List ℕ → ℕ
-value_after_base (Some base) bs = value_from base 0 bs
-value_after_base None bs = 0
-
-abbrev pub value_after_hash : List ℕ → ℕ
-value_after_hash [] = 0
-value_after_hash (b ∷ bs) = value_after_base (base_of b) bs
-
--- the value of an integer as it is written
-abbrev pub value_of : List ℕ → ℕ
-value_of [] = 0
-value_of (b ∷ bs) = if b == 35 then value_after_hash bs else value_from 10 0 (b ∷ bs)
-
--- what fits 64 bits with a sign
-abbrev pub fitting : ℕ → Option ℕ
-fitting n = if nat_lt 9223372036854775807 n then None else Some n
+runs_on (b ∷ bs) = if is_letter b then true else if b == 95 then true
+    else if b == 46 then begins_digit bs else false
 
 abbrev pub integer : Place → List ℕ → Option ℕ → OneToken
 integer place piece None = Err (fault_at WideInteger place)
 integer place piece (Some n) = Ok (token Int (folded piece) (pos n) place)
 
 abbrev pub integer_at : Place → List ℕ → List ℕ → OneToken
-integer_at place piece rest = if runs_on rest then Err (fault_at BadLiteral place) else integer place piece (fitting (value_of piece))
+integer_at place piece rest =
+    if runs_on rest then Err (fault_at BadLiteral place)
+    else integer place piece (fitting (value_of piece))
 
 abbrev pub one_character : Place → Option (List ℕ) → OneToken
 one_character place (Some (v ∷ [])) = plain Char (v ∷ []) place
@@ -135,7 +119,8 @@ after_token (Ok t) more = before t more
 after_token (Err f) more = Err f
 
 abbrev pub after_piece : Place → List ℕ → Found → (ℕ → Tokens) → Tokens
-after_piece place text (Ok p) more = after_token (token_at p.0 place (take p.1 text) (drop p.1 text)) (more p.1)
+after_piece place text (Ok p) more =
+    after_token (token_at p.0 place (take p.1 text) (drop p.1 text)) (more p.1)
 after_piece place text (Err kind) more = Err (fault_at kind place)
 
 -- the tokens of a text of at most n bytes that begins at an offset of a file
@@ -143,7 +128,8 @@ abbrev pub tokens_of : ℕ → ℕ → ℕ → List ℕ → Tokens
 tokens_of zero file at text = Ok []
 tokens_of (suc n) file at [] = Ok []
 tokens_of (suc n) file at (b ∷ bs) =
-    after_piece (record { file = file; offset = at }) (b ∷ bs) (piece_at (b ∷ bs)) (λ len. tokens_of n file (at + len) (drop len (b ∷ bs)))
+    after_piece (record { file = file; offset = at }) (b ∷ bs) (piece_at (b ∷ bs))
+    (λ len. tokens_of n file (at + len) (drop len (b ∷ bs)))
 
 abbrev pub is_string : TokenKind → Bool
 is_string Str = true

@@ -7,7 +7,9 @@ ghost use Rattle.dy_lexer.specs.declared.source.Lid.{Lid};
 ghost use Rattle.dy_lexer.specs.Tokens.{Gives};
 ghost use Rattle.dy_lexer.specs.Headers.{are_printable};
 ghost use Rattle.dy_lexer.specs.Sources as sources;
-ghost use Rattle.dy_lexer.specs.Sources.{wanted, placed, lid_from, lid_of, source_of, IsSource, IsFirst, IsReading, IsLid, IsLidFault, IsLidReading, Reads, Refuses};
+ghost use Rattle.dy_lexer.specs.Sources.{wanted, placed, lid_from, lid_of, source_of, IsSource};
+ghost use Rattle.dy_lexer.specs.Sources.{IsFirst, IsReading, IsLid, IsLidFault, IsLidReading};
+ghost use Rattle.dy_lexer.specs.Sources.{Reads, Refuses};
 
 use crate::header::{Head, header, trimmed};
 use crate::reading::tokens_of;
@@ -77,12 +79,14 @@ fn read_source(alloc: Global, file: u32, bytes: &[u8]) -> Result<Source, Refusal
     })
 }
 
-/// The module and the tokens of a source file (DRM 2, "Lexical syntax"; headers, DRM appendix "Dylan
-/// interchange format"). `file` is the file's number, which each place has beside an offset in bytes.
+/// The module and the tokens of a source file (DRM 2, "Lexical syntax"; headers, DRM appendix
+/// "Dylan interchange format"). `file` is the file's number, which each place has beside an offset
+/// in bytes.
 ///
-/// A refusal has the first fault: that of the header, `BadHeader`, else the earliest one in the text
-/// after it: `BadByte` where nothing begins, `OpenComment` and `OpenString` where something is not
-/// closed, `BadLiteral` where a literal has none of its forms, `WideInteger` where an integer is above
+/// A refusal has the first fault: that of the header, `BadHeader`, else the earliest one in the
+/// text after it: `BadByte` where nothing begins, `OpenComment` and `OpenString` where something is
+/// not closed, `BadLiteral` where a literal has none of its forms, `WideInteger` where an integer
+/// is above
 /// 9223372036854775807. Or it says that memory did not suffice.
 pub fn lex(alloc: Global, file: u32, bytes: &[u8]) -> Result<Source, Refusal>
     requires { length bytes.now < 2 ^ 32 }
@@ -104,13 +108,13 @@ fn read_lid_file(alloc: Global, bytes: &[u8]) -> Result<Lid, Refusal>
     lid_with(alloc, head)
 }
 
-/// The library and the files of a LID file (own; its lines are those of a header). What follows an empty
-/// line is ignored.
+/// The library and the files of a LID file (own; its lines are those of a header). What follows an
+/// empty line is ignored.
 ///
-/// A refusal has the first fault, a `BadHeader` whose place has the file number 0: at offset 0 where
-/// `library` or `files` is missing, else at the first line that is no header line, has one of these a
-/// second time, or has a file name with a byte outside 32 to 126. Or it says that memory did not
-/// suffice.
+/// A refusal has the first fault, a `BadHeader` whose place has the file number 0: at offset 0
+/// where `library` or `files` is missing, else at the first line that is no header line, has one of
+/// these a second time, or has a file name with a byte outside 32 to 126. Or it says that memory
+/// did not suffice.
 pub fn read_lid(alloc: Global, bytes: &[u8]) -> Result<Lid, Refusal>
     requires { length bytes.now < 2 ^ 32 }
     // What is read is what the header says, and a fault is the first one.

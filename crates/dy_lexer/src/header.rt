@@ -1,15 +1,15 @@
 //! Headers of source files and of LID files.
 
-ghost use Rattle.std.specs.Prelude.{◌≡◌, ℕ, ◌+◌, ◌-◌, ◌≤◌, ◌<◌, ◌^◌, ◌++◌, ◌∷◌, [], length, take, drop, IfOk, IfSome, true, codes};
+ghost use Rattle.std.specs.Prelude.{◌≡◌, ℕ, ◌+◌, ◌-◌, ◌≤◌, ◌<◌, ◌^◌, ◌++◌, ◌∷◌, [], length, take};
+ghost use Rattle.std.specs.Prelude.{drop, IfOk, IfSome, true, codes};
 ghost use Rattle.std.specs.List.{prefix_len};
-ghost use Rattle.dy_lexer.specs.Bytes.{is_blank, in_line};
-ghost use Rattle.dy_lexer.specs.Words.{is_same};
+ghost use Rattle.dy_pieces.specs.Bytes.{is_blank, in_line};
+ghost use Rattle.dy_pieces.specs.Words.{is_same};
 ghost use Rattle.dy_lexer.specs.Headers as headers;
 ghost use Rattle.dy_lexer.specs.Headers.{header_from, opened};
 
-use crate::class::{is_blank, is_digit, is_letter};
-use crate::literal::folded;
 use dy_base::{Items, Text};
+use dy_pieces::{folded, is_blank, is_digit, is_letter};
 use std::alloc::{AllocError, Global};
 
 /// Which key a header line has.
@@ -500,7 +500,9 @@ fn line_read(alloc: Global, lid: bool, head: Head, at: u32, line: &[u8]) -> Resu
 /// The header, and how many bytes it has with the line that ends it.
 pub(crate) fn header(alloc: Global, lid: bool, text: &[u8]) -> Result<(Head, u32), AllocError>
     requires { length text.now < 2 ^ 32 }
-    ensures exact { (n : ℕ) → length text.now ≤ n → IfOk result (λ r. opened r.0 r.1 (drop r.1 text.now) ≡ header_from lid n headers.start 0 text.now) }
+    ensures exact { (n : ℕ) → length text.now ≤ n
+        → IfOk result (λ r. opened r.0 r.1 (drop r.1 text.now)
+        ≡ header_from lid n headers.start 0 text.now) }
     ensures within { IfOk result (λ r. r.1 ≤ length text.now) }
 {
     let mut head = Head {

@@ -1,15 +1,11 @@
 //! Reads source files and LID files as tokens.
 #![tactic(auto)]
 
-mod class;
 mod files;
 mod header;
 mod laws;
-mod literal;
-mod piece;
 mod reading;
 mod source;
-mod spelling;
 #[cfg(test)]
 mod tests;
 mod token;

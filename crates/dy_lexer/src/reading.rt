@@ -2,12 +2,11 @@
 
 ghost use Rattle.std.specs.Prelude.{◌≡◌, ℕ, ◌+◌, ◌-◌, ◌≤◌, ◌<◌, ◌^◌, length, drop, [], Ok};
 ghost use Rattle.dy_lexer.specs.Tokens.{Gives, tokens_of, joined_after};
-ghost use Rattle.dy_lexer.specs.Pieces.{IsNameless};
+ghost use Rattle.dy_pieces.specs.Pieces.{IsNameless};
 
-use crate::class::{Class, class_of};
-use crate::piece::piece_at;
 use crate::token::{add_piece, fault};
 use dy_base::{Place, Refusal};
+use dy_pieces::{Class, class_of, piece_at};
 use dy_tree::Token;
 use std::alloc::Global;
 
@@ -47,7 +46,8 @@ pub(crate) fn tokens_of(
     text: &[u8],
 ) -> Result<Vec<Token>, Refusal>
     requires { start + length text.now < 2 ^ 32 }
-    ensures { (n : ℕ) → length text.now ≤ n → Gives (λ v. v.items) result (joined_after [] (tokens_of n file start text.now)) }
+    ensures { (n : ℕ) → length text.now ≤ n
+        → Gives (λ v. v.items) result (joined_after [] (tokens_of n file start text.now)) }
 {
     let mut tokens = Vec::new(alloc);
     let mut rest = text;

@@ -1,14 +1,16 @@
 //! The token of a piece.
 
-ghost use Rattle.std.specs.Prelude.{◌≡◌, ◌∷◌, [], ◌+◌, ◌-◌, ◌++◌, ◌≤◌, ◌<◌, ◌^◌, length, take, drop, pos, true, false, Ok};
+ghost use Rattle.std.specs.Prelude.{◌≡◌, ◌∷◌, [], ◌+◌, ◌-◌, ◌++◌, ◌≤◌, ◌<◌, ◌^◌, length, take};
+ghost use Rattle.std.specs.Prelude.{drop, pos, true, false, Ok};
 ghost use Rattle.dy_base.specs.Folding.{folded};
-ghost use Rattle.dy_lexer.specs.Scan.{decoded};
+ghost use Rattle.dy_pieces.specs.Numbers.{fitting, value_of};
+ghost use Rattle.dy_pieces.specs.Scan.{decoded};
 ghost use Rattle.dy_lexer.specs.Tokens as tokens;
-ghost use Rattle.dy_lexer.specs.Tokens.{Gives, fault_at, inner, token_of, token_at, added, added_piece, with_token, is_string};
+ghost use Rattle.dy_lexer.specs.Tokens.{Gives, fault_at, inner, token_of, token_at, added};
+ghost use Rattle.dy_lexer.specs.Tokens.{added_piece, with_token, is_string};
 
-use crate::class::{Piece, is_digit, is_letter};
-use crate::literal::{decoded, folded, value_of};
 use dy_base::{Fault, Items, Kind, Place, Refusal, Text};
+use dy_pieces::{Piece, decoded, folded, is_digit, is_letter, value_of};
 use dy_tree::{Token, TokenKind};
 use std::alloc::{AllocFailed, Global};
 
@@ -80,7 +82,8 @@ fn runs_on(bytes: &[u8]) -> bool
 }
 
 fn integer(alloc: Global, place: Place, bytes: &[u8]) -> Result<Token, Refusal>
-    ensures { Gives (λ t. t) result (tokens.integer place bytes.now (tokens.fitting (tokens.value_of bytes.now))) }
+    ensures { Gives (λ t. t) result
+        (tokens.integer place bytes.now (fitting (value_of bytes.now))) }
 {
     match value_of(bytes) {
         None => Err(fault(alloc, Kind::WideInteger, place)),
@@ -218,7 +221,8 @@ fn add_after(
     bytes: &[u8],
     rest: &[u8],
 ) -> Result<Vec<Token>, Refusal>
-    ensures { Gives (λ v. v.items) result (added (tokens.items ++ last ∷ []) (token_of TokenKind.Str place bytes.now rest.now)) }
+    ensures { Gives (λ v. v.items) result
+        (added (tokens.items ++ last ∷ []) (token_of TokenKind.Str place bytes.now rest.now)) }
 {
     if is_string(last.kind) {
         let whole = string_after(alloc, last, place, inner(1, bytes))?;
@@ -237,7 +241,8 @@ fn add_string(
     bytes: &[u8],
     rest: &[u8],
 ) -> Result<Vec<Token>, Refusal>
-    ensures { Gives (λ v. v.items) result (added tokens.items (token_of TokenKind.Str place bytes.now rest.now)) }
+    ensures { Gives (λ v. v.items) result
+        (added tokens.items (token_of TokenKind.Str place bytes.now rest.now)) }
 {
     let mut tokens = tokens;
     match tokens.pop() {
@@ -258,7 +263,8 @@ pub(crate) fn add_piece(
     bytes: &[u8],
     rest: &[u8],
 ) -> Result<Vec<Token>, Refusal>
-    ensures { Gives (λ v. v.items) result (added_piece tokens.items (token_at piece place bytes.now rest.now)) }
+    ensures { Gives (λ v. v.items) result
+        (added_piece tokens.items (token_at piece place bytes.now rest.now)) }
 {
     match piece {
         Piece::Comment => Ok(tokens),

@@ -4,9 +4,9 @@ use Rattle.std.proofs.lemmas.List.{append-nil, flat_map_more, map-append, map_mo
 use Rattle.std.specs.List.{flat_map}
 use Rattle.dy_tree.specs.Fragments.{SeenFragment, one}
 use Rattle.dy_rules.specs.Marks.{mark}
-use Rattle.dy_writer.specs.Joined.{behind_mark, joined, mark_unless}
-use Rattle.dy_writer.specs.Parts.{is_none_of}
-use Rattle.dy_writer.proofs.Steps.{not_none}
+use Rattle.dy_write_parts.specs.Joined.{behind_mark, joined, mark_unless}
+use Rattle.dy_write_parts.specs.Parts.{is_none_of}
+use Rattle.dy_write_parts.proofs.Steps.{not_none}
 
 abbrev Fragments : Type 0
 Fragments = List SeenFragment

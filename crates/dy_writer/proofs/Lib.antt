@@ -1,10 +1,5 @@
 mod Appends
-mod Breaks
-mod Endings
 mod Joined
 mod Links
-mod Lists
-mod Separated
 mod Statements
-mod Steps
 mod Wholes

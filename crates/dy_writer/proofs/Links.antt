@@ -28,7 +28,8 @@ use Rattle.dy_rules.specs.SeenTypes.{seen_type, seen_required, seen_results}
 use Rattle.dy_rules.specs.Trees as trees
 use Rattle.dy_rules.specs.Writing.{written_arguments, written_alternatives, written_arms, written_body, written_clause, written_clauses, written_item, written_for, written_stop, written_methods, written_caught, written_method, written_signature, written_keys, written_all, first_keys, written_remains, joined_choices, joined_clauses}
 use Rattle.dy_rules.specs.Held.{held_alternative, held_arms, held_test, held_stop, held_body, held_key, held_last, held_keys, held_clauses}
-use Rattle.dy_writer.specs.Plain.{behind_first, before_body, main_body, behind_body, last_body, choice_break, clause_break}
+use Rattle.dy_write_parts.specs.Breaks.{choice_break, clause_break}
+use Rattle.dy_writer.specs.Plain.{behind_first, before_body, main_body, behind_body, last_body}
 use Rattle.dy_rules.proofs.Held.{inner_alternatives, inner_arguments, inner_arms, inner_clauses, inner_items, inner_keys, inner_last, inner_loop, inner_methods, inner_some_keys, inner_stop, inner_test}
 
 pub at_call : (function : Box Expression) (arguments : Vec Argument) → behind_first (seen_tree (expressions.Call function arguments)) ≡ in_round (written_arguments (trees.arguments_of (map seen_argument arguments.items))) ∷ []

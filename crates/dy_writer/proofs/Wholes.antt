@@ -5,7 +5,7 @@ use Rattle.dy_tree.specs.Fragments.{SeenFragment}
 use Rattle.dy_rules.specs.Marks.{comma_mark, semicolon_mark}
 use Rattle.dy_rules.specs.Trees.{Argument, arguments_of, ItemTree, body_of, LocalMethod, methods_of, Alternative, alternatives_of, Arm, arms_of, Tree, tests_of, BlockClause, block_clauses_of, ForClause, for_clauses_of, Key, keys_of}
 use Rattle.dy_rules.specs.Writing.{written, written_argument, written_arguments, written_rest, written_item, written_body, items_behind, written_method, written_methods, methods_behind, written_alternative, written_alternatives, written_arm, written_arms, arms_behind, written_tests, tests_behind, written_clause, written_clauses, written_for_clause, written_for, for_behind, written_key, first_keys, keys_behind}
-use Rattle.dy_writer.specs.Joined.{behind_mark, joined}
+use Rattle.dy_write_parts.specs.Joined.{behind_mark, joined}
 
 abbrev Fragments : Type 0
 Fragments = List SeenFragment

@@ -1,4 +1,1 @@
-pub mod Joined
-pub mod Parts
 pub mod Plain
-pub mod Separated

@@ -13,6 +13,9 @@ ghost use Rattle.dy_read_forms.specs.Answers.{Accepts, GivesForm};
 /// What holds of `parse` behind `unparse`: a form that stands for some fragments, and is within the
 /// limit of depth, is what its canonical fragments are parsed as.
 pub fn round_trip_laws()
-    // A call that parses what the form is written as gives the form, or says that memory did not suffice.
-    ensures again { (fragments : List SeenFragment) (form : FormTree) (result : Result Form Refusal) → IsForm form fragments → form_depth form ≤ depth_limit → Accepts (written_form form) result → GivesForm result form }
+    // A call that parses what the form is written as gives the form, or says that memory did not
+    // suffice.
+    ensures again { (fragments : List SeenFragment) (form : FormTree) (result : Result Form Refusal)
+        → IsForm form fragments → form_depth form ≤ depth_limit → Accepts (written_form form) result
+        → GivesForm result form }
 {}

@@ -4,14 +4,15 @@ ghost use Rattle.std.specs.Prelude.{◌≡◌, ◌++◌, ◌∷◌, [], codes, m
 ghost use Rattle.dy_tree.specs.Fragments.{seen_fragments};
 ghost use Rattle.dy_rules.specs.Marks.{in_round, word_mark};
 ghost use Rattle.dy_rules.specs.Trees.{block_clauses_of};
-ghost use Rattle.dy_rules.specs.Writing.{written_caught, written_clause, written_clauses, written_exit};
+ghost use Rattle.dy_rules.specs.Writing.{written_caught, written_clause, written_clauses};
+ghost use Rattle.dy_rules.specs.Writing.{written_exit};
 ghost use Rattle.dy_rules.specs.SeenTypes.{seen_type};
 ghost use Rattle.dy_rules.specs.SeenForms.{seen_clause};
 
 use crate::write::bodies::push_body;
-use crate::write::mark::{push_mark, push_round, push_token, push_word};
-use crate::write::types::push_type;
 use dy_tree::{BlockClause, Fragment, Token, TypeForm};
+use dy_write_parts::mark::{push_mark, push_round, push_token, push_word};
+use dy_write_parts::types::push_type;
 use std::alloc::{AllocError, Global};
 
 /// Adds the name of the exit, in round brackets.
@@ -20,7 +21,8 @@ pub fn push_exit(
     exit: &Option<Token>,
     out: &mut Vec<Fragment>,
 ) -> Result<(), AllocError>
-    ensures { OnOk result (seen_fragments out.new.items ≡ seen_fragments out.old.items ++ in_round (written_exit exit.now) ∷ []) }
+    ensures { OnOk result (seen_fragments out.new.items
+        ≡ seen_fragments out.old.items ++ in_round (written_exit exit.now) ∷ []) }
 {
     let mut inner = Vec::new(alloc);
     match exit {
@@ -39,7 +41,8 @@ fn push_caught(
     condition: &TypeForm,
     out: &mut Vec<Fragment>,
 ) -> Result<(), AllocError>
-    ensures { OnOk result (seen_fragments out.new.items ≡ seen_fragments out.old.items ++ written_caught variable.now (seen_type condition.now)) }
+    ensures { OnOk result (seen_fragments out.new.items
+        ≡ seen_fragments out.old.items ++ written_caught variable.now (seen_type condition.now)) }
 {
     match variable {
         Some(token) => {
@@ -58,7 +61,9 @@ fn push_exception(
     condition: &TypeForm,
     out: &mut Vec<Fragment>,
 ) -> Result<(), AllocError>
-    ensures { OnOk result (seen_fragments out.new.items ≡ seen_fragments out.old.items ++ word_mark (codes "exception") ∷ in_round (written_caught variable.now (seen_type condition.now)) ∷ []) }
+    ensures { OnOk result (seen_fragments out.new.items
+        ≡ seen_fragments out.old.items ++ word_mark (codes "exception")
+        ∷ in_round (written_caught variable.now (seen_type condition.now)) ∷ []) }
 {
     push_word(alloc, out, b"exception")?;
     let mut inner = Vec::new(alloc);
@@ -72,7 +77,9 @@ pub fn push_clauses(
     clauses: &Vec<BlockClause>,
     out: &mut Vec<Fragment>,
 ) -> Result<(), AllocError>
-    ensures { OnOk result (seen_fragments out.new.items ≡ seen_fragments out.old.items ++ written_clauses (block_clauses_of (map seen_clause clauses.now.items))) }
+    ensures { OnOk result (seen_fragments out.new.items
+        ≡ seen_fragments out.old.items
+        ++ written_clauses (block_clauses_of (map seen_clause clauses.now.items))) }
 {
     for clause in clauses {
         push_clause(alloc, clause, out)?;
@@ -86,7 +93,8 @@ fn push_clause(
     clause: &BlockClause,
     out: &mut Vec<Fragment>,
 ) -> Result<(), AllocError>
-    ensures { OnOk result (seen_fragments out.new.items ≡ seen_fragments out.old.items ++ written_clause (seen_clause clause.now)) }
+    ensures { OnOk result (seen_fragments out.new.items
+        ≡ seen_fragments out.old.items ++ written_clause (seen_clause clause.now)) }
 {
     match clause {
         BlockClause::Afterwards { body } => {

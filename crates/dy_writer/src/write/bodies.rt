@@ -3,17 +3,18 @@
 ghost use Rattle.std.specs.Prelude.{◌≡◌, ◌++◌, ◌∷◌, [], map, OnOk};
 ghost use Rattle.dy_tree.specs.Fragments.{seen_fragments};
 ghost use Rattle.dy_rules.specs.Trees.{body_of, methods_of};
-ghost use Rattle.dy_rules.specs.Writing.{written_body, written_item, written_method, written_methods};
+ghost use Rattle.dy_rules.specs.Writing.{written_body, written_item, written_method};
+ghost use Rattle.dy_rules.specs.Writing.{written_methods};
 ghost use Rattle.dy_rules.specs.SeenForms.{seen_item, seen_method};
 
-use crate::write::breaks::push_between;
 use crate::write::expressions::push_whole;
-use crate::write::mark::{push_mark, push_token, push_word};
-use crate::write::marks::{push_equals, push_statement};
 use crate::write::parameters::push_signature;
-use crate::write::targets::push_target;
-use crate::write::types::push_type;
 use dy_tree::{Fragment, Item, LocalMethod};
+use dy_write_parts::breaks::push_between;
+use dy_write_parts::mark::{push_mark, push_token, push_word};
+use dy_write_parts::marks::{push_equals, push_statement};
+use dy_write_parts::targets::push_target;
+use dy_write_parts::types::push_type;
 use std::alloc::{AllocError, Global};
 
 /// Adds the items of a body with semicolons between them.
@@ -23,7 +24,8 @@ pub fn push_body(
     items: &Vec<Item>,
     out: &mut Vec<Fragment>,
 ) -> Result<(), AllocError>
-    ensures { OnOk result (seen_fragments out.new.items ≡ seen_fragments out.old.items ++ written_body (body_of (map seen_item items.now.items))) }
+    ensures { OnOk result (seen_fragments out.new.items
+        ≡ seen_fragments out.old.items ++ written_body (body_of (map seen_item items.now.items))) }
 {
     let mut first = true;
     for item in items {
@@ -36,7 +38,8 @@ pub fn push_body(
 
 #[cycle(write)]
 fn push_item(alloc: Global, item: &Item, out: &mut Vec<Fragment>) -> Result<(), AllocError>
-    ensures { OnOk result (seen_fragments out.new.items ≡ seen_fragments out.old.items ++ written_item (seen_item item.now)) }
+    ensures { OnOk result (seen_fragments out.new.items
+        ≡ seen_fragments out.old.items ++ written_item (seen_item item.now)) }
 {
     match item {
         Item::Let {
@@ -74,7 +77,9 @@ fn push_methods(
     methods: &Vec<LocalMethod>,
     out: &mut Vec<Fragment>,
 ) -> Result<(), AllocError>
-    ensures { OnOk result (seen_fragments out.new.items ≡ seen_fragments out.old.items ++ written_methods (methods_of (map seen_method methods.now.items))) }
+    ensures { OnOk result (seen_fragments out.new.items
+        ≡ seen_fragments out.old.items
+        ++ written_methods (methods_of (map seen_method methods.now.items))) }
 {
     let mut first = true;
     for method in methods {
@@ -91,7 +96,8 @@ fn push_method(
     method: &LocalMethod,
     out: &mut Vec<Fragment>,
 ) -> Result<(), AllocError>
-    ensures { OnOk result (seen_fragments out.new.items ≡ seen_fragments out.old.items ++ written_method (seen_method method.now) ∷ []) }
+    ensures { OnOk result (seen_fragments out.new.items
+        ≡ seen_fragments out.old.items ++ written_method (seen_method method.now) ∷ []) }
 {
     let mut inner = Vec::new(alloc);
     push_token(&mut inner, method.name.copy()?)?;

@@ -8,10 +8,10 @@ ghost use Rattle.dy_rules.specs.SeenForms.{seen_tree};
 ghost use Rattle.dy_rules.specs.Held.{held_arm, held_arms, held_test};
 
 use crate::write::bodies::push_body;
-use crate::write::breaks::push_between;
 use crate::write::expressions::push_whole;
-use crate::write::mark::{push_mark, push_word};
 use dy_tree::{Arm, Expression, Fragment};
+use dy_write_parts::breaks::push_between;
+use dy_write_parts::mark::{push_mark, push_word};
 use std::alloc::{AllocError, Global};
 
 /// Adds what a `select` tests by, behind its word, if it is there.
@@ -21,7 +21,8 @@ pub fn push_selector(
     test: &Option<Box<Expression>>,
     out: &mut Vec<Fragment>,
 ) -> Result<(), AllocError>
-    ensures { OnOk result (seen_fragments out.new.items ≡ seen_fragments out.old.items ++ written_test (held_test test.now)) }
+    ensures { OnOk result (seen_fragments out.new.items
+        ≡ seen_fragments out.old.items ++ written_test (held_test test.now)) }
 {
     match test {
         Some(test) => {
@@ -35,7 +36,8 @@ pub fn push_selector(
 /// Adds arms with semicolons between them.
 #[cycle(write)]
 pub fn push_arms(alloc: Global, arms: &Vec<Arm>, out: &mut Vec<Fragment>) -> Result<(), AllocError>
-    ensures { OnOk result (seen_fragments out.new.items ≡ seen_fragments out.old.items ++ written_arms (held_arms arms.now)) }
+    ensures { OnOk result (seen_fragments out.new.items
+        ≡ seen_fragments out.old.items ++ written_arms (held_arms arms.now)) }
 {
     let mut first = true;
     for arm in arms {
@@ -48,7 +50,8 @@ pub fn push_arms(alloc: Global, arms: &Vec<Arm>, out: &mut Vec<Fragment>) -> Res
 
 #[cycle(write)]
 fn push_arm(alloc: Global, arm: &Arm, out: &mut Vec<Fragment>) -> Result<(), AllocError>
-    ensures { OnOk result (seen_fragments out.new.items ≡ seen_fragments out.old.items ++ written_arm (held_arm arm.now)) }
+    ensures { OnOk result (seen_fragments out.new.items
+        ≡ seen_fragments out.old.items ++ written_arm (held_arm arm.now)) }
 {
     push_tests(alloc, &arm.tests, out)?;
     push_mark(alloc, out, b"=>")?;
@@ -61,7 +64,9 @@ fn push_tests(
     tests: &Vec<Expression>,
     out: &mut Vec<Fragment>,
 ) -> Result<(), AllocError>
-    ensures { OnOk result (seen_fragments out.new.items ≡ seen_fragments out.old.items ++ written_tests (tests_of (map seen_tree tests.now.items))) }
+    ensures { OnOk result (seen_fragments out.new.items
+        ≡ seen_fragments out.old.items
+        ++ written_tests (tests_of (map seen_tree tests.now.items))) }
 {
     let mut first = true;
     for test in tests {

@@ -3,19 +3,20 @@
 ghost use Rattle.std.specs.Prelude.{◌≡◌, ◌++◌, map, OnOk};
 ghost use Rattle.dy_tree.specs.Fragments.{seen_fragments};
 ghost use Rattle.dy_rules.specs.Trees.{arguments_of};
-ghost use Rattle.dy_rules.specs.Writing.{bracketed, plain, written, written_operand, written_argument, written_arguments};
+ghost use Rattle.dy_rules.specs.Writing.{bracketed, plain, written, written_operand};
+ghost use Rattle.dy_rules.specs.Writing.{written_argument, written_arguments};
 ghost use Rattle.dy_rules.specs.SeenForms.{seen_tree, seen_argument};
 ghost use Rattle.dy_writer.specs.Plain.{behind_first};
 
 pub use crate::write::bodies::push_body;
-use crate::write::brackets::{operand_bracketed, splits_tree, unary_bracketed};
-use crate::write::breaks::push_between;
-use crate::write::leaves::push_leaf;
-use crate::write::mark::{push_mark, push_round, push_square_group, push_token};
-use crate::write::marks::{push_assigns, push_statement};
 pub use crate::write::parameters::{push_initial, push_signature};
 use crate::write::statements::{push_before_body, push_behind_body, push_main_body};
 use dy_tree::{Argument, Expression, Fragment};
+use dy_write_parts::brackets::{operand_bracketed, splits_tree, unary_bracketed};
+use dy_write_parts::breaks::push_between;
+use dy_write_parts::leaves::push_leaf;
+use dy_write_parts::mark::{push_mark, push_round, push_square_group, push_token};
+use dy_write_parts::marks::{push_assigns, push_statement};
 use std::alloc::{AllocError, Global};
 
 /// Adds an expression.
@@ -25,7 +26,8 @@ pub fn push_whole(
     form: &Expression,
     out: &mut Vec<Fragment>,
 ) -> Result<(), AllocError>
-    ensures { OnOk result (seen_fragments out.new.items ≡ seen_fragments out.old.items ++ written (seen_tree form.now)) }
+    ensures { OnOk result (seen_fragments out.new.items
+        ≡ seen_fragments out.old.items ++ written (seen_tree form.now)) }
 {
     push_bracketed(alloc, form, splits_tree(form), out)
 }
@@ -33,7 +35,8 @@ pub fn push_whole(
 /// Adds an operand.
 #[cycle(write)]
 fn push_operand(alloc: Global, form: &Expression, out: &mut Vec<Fragment>) -> Result<(), AllocError>
-    ensures { OnOk result (seen_fragments out.new.items ≡ seen_fragments out.old.items ++ written_operand (seen_tree form.now)) }
+    ensures { OnOk result (seen_fragments out.new.items
+        ≡ seen_fragments out.old.items ++ written_operand (seen_tree form.now)) }
 {
     push_bracketed(alloc, form, operand_bracketed(form), out)
 }
@@ -47,7 +50,8 @@ fn push_bracketed(
     in_brackets: bool,
     out: &mut Vec<Fragment>,
 ) -> Result<(), AllocError>
-    ensures { OnOk result (seen_fragments out.new.items ≡ seen_fragments out.old.items ++ bracketed in_brackets (plain (seen_tree form.now))) }
+    ensures { OnOk result (seen_fragments out.new.items
+        ≡ seen_fragments out.old.items ++ bracketed in_brackets (plain (seen_tree form.now))) }
 {
     if in_brackets {
         let mut inner = Vec::new(alloc);
@@ -62,7 +66,8 @@ fn push_bracketed(
 #[cycle(write)]
 #[tactic(auto, using(crate::proofs::Statements::statement_parts))]
 fn push_plain(alloc: Global, form: &Expression, out: &mut Vec<Fragment>) -> Result<(), AllocError>
-    ensures { OnOk result (seen_fragments out.new.items ≡ seen_fragments out.old.items ++ plain (seen_tree form.now)) }
+    ensures { OnOk result (seen_fragments out.new.items
+        ≡ seen_fragments out.old.items ++ plain (seen_tree form.now)) }
 {
     match form {
         Expression::Assign { place: base, .. }
@@ -96,7 +101,8 @@ fn push_behind_first(
     form: &Expression,
     out: &mut Vec<Fragment>,
 ) -> Result<(), AllocError>
-    ensures { OnOk result (seen_fragments out.new.items ≡ seen_fragments out.old.items ++ behind_first (seen_tree form.now)) }
+    ensures { OnOk result (seen_fragments out.new.items
+        ≡ seen_fragments out.old.items ++ behind_first (seen_tree form.now)) }
 {
     match form {
         Expression::Assign { value, .. } => {
@@ -136,7 +142,9 @@ fn push_arguments(
     arguments: &Vec<Argument>,
     out: &mut Vec<Fragment>,
 ) -> Result<(), AllocError>
-    ensures { OnOk result (seen_fragments out.new.items ≡ seen_fragments out.old.items ++ written_arguments (arguments_of (map seen_argument arguments.now.items))) }
+    ensures { OnOk result (seen_fragments out.new.items
+        ≡ seen_fragments out.old.items
+        ++ written_arguments (arguments_of (map seen_argument arguments.now.items))) }
 {
     let mut first = true;
     for argument in arguments {
@@ -153,7 +161,8 @@ fn push_argument(
     argument: &Argument,
     out: &mut Vec<Fragment>,
 ) -> Result<(), AllocError>
-    ensures { OnOk result (seen_fragments out.new.items ≡ seen_fragments out.old.items ++ written_argument (seen_argument argument.now)) }
+    ensures { OnOk result (seen_fragments out.new.items
+        ≡ seen_fragments out.old.items ++ written_argument (seen_argument argument.now)) }
 {
     match argument {
         Argument::Keyword { keyword, value } => {

@@ -3,7 +3,8 @@
 ghost use Rattle.std.specs.Prelude.{◌≡◌, ◌≤◌, ◌++◌, List, [], ◌∷◌, map, codes, IfOk, OnOk};
 ghost use Rattle.dy_tree.specs.Fragments.{SeenFragment, one, seen_fragments};
 ghost use Rattle.dy_rules.specs.Trees.{body_of};
-ghost use Rattle.dy_rules.specs.Forms.{IsForm, class_form, generic_form, method_form, function_form, domain_form};
+ghost use Rattle.dy_rules.specs.Forms.{IsForm, class_form, generic_form, method_form};
+ghost use Rattle.dy_rules.specs.Forms.{function_form, domain_form};
 ghost use Rattle.dy_rules.specs.Marks.{equals_mark, semicolon_mark, statement_group, word_mark};
 ghost use Rattle.dy_rules.specs.TypeWriting.{written_target};
 ghost use Rattle.dy_rules.specs.Writing.{written, written_body, written_signature};
@@ -12,21 +13,22 @@ ghost use Rattle.dy_rules.specs.FormDepth.{form_depth};
 ghost use Rattle.dy_rules.specs.Parsing.{accepted, parsed};
 ghost use Rattle.dy_rules.specs.FormWriting.{written_form};
 ghost use Rattle.dy_rules.specs.SeenTypes.{seen_target, seen_type};
-ghost use Rattle.dy_rules.specs.SeenForms.{seen_form, seen_item, seen_parameters, seen_slot, seen_tree};
+ghost use Rattle.dy_rules.specs.SeenForms.{seen_form, seen_item, seen_parameters, seen_slot};
+ghost use Rattle.dy_rules.specs.SeenForms.{seen_tree};
 
 use crate::write::bodies::push_body;
 use crate::write::expressions::push_whole;
-use crate::write::mark::{
-    made, push_group, push_mark, push_operator, push_round, push_token, push_word,
-};
-use crate::write::names::{push_adjectives, push_names};
 use crate::write::parameters::push_signature;
 use crate::write::slots::push_slots;
-use crate::write::targets::push_target;
-use crate::write::types::push_types;
 use dy_tree::{
     Expression, Form, Fragment, Item, Parameters, Slot, Target, Token, TokenKind, TypeForm,
 };
+use dy_write_parts::mark::{
+    made, push_group, push_mark, push_operator, push_round, push_token, push_word,
+};
+use dy_write_parts::names::{push_adjectives, push_names};
+use dy_write_parts::targets::push_target;
+use dy_write_parts::types::push_types;
 use std::alloc::{AllocError, Global};
 
 /// Adds a definition that has an end.
@@ -36,7 +38,9 @@ fn push_definition(
     inner: Vec<Fragment>,
     out: &mut Vec<Fragment>,
 ) -> Result<(), AllocError>
-    ensures { OnOk result (seen_fragments out.new.items ≡ seen_fragments out.old.items ++ statement_group define.now (seen_fragments inner.items) ∷ []) }
+    ensures { OnOk result (seen_fragments out.new.items
+        ≡ seen_fragments out.old.items ++ statement_group define.now (seen_fragments inner.items)
+        ∷ []) }
 {
     let opener = define.copy()?;
     let closer = made(alloc, TokenKind::Name, b"end")?;
@@ -51,7 +55,9 @@ fn push_head(
     name: &Token,
     out: &mut Vec<Fragment>,
 ) -> Result<(), AllocError>
-    ensures { OnOk result (seen_fragments out.new.items ≡ seen_fragments out.old.items ++ (map one adjectives.now.items ++ word_mark word.now ∷ one name.now ∷ [])) }
+    ensures { OnOk result (seen_fragments out.new.items
+        ≡ seen_fragments out.old.items
+        ++ (map one adjectives.now.items ++ word_mark word.now ∷ one name.now ∷ [])) }
 {
     push_adjectives(adjectives, out)?;
     push_word(alloc, out, word)?;
@@ -65,7 +71,9 @@ fn push_method_head(
     name: &Token,
     out: &mut Vec<Fragment>,
 ) -> Result<(), AllocError>
-    ensures { OnOk result (seen_fragments out.new.items ≡ seen_fragments out.old.items ++ (map one adjectives.now.items ++ one word.now ∷ one name.now ∷ [])) }
+    ensures { OnOk result (seen_fragments out.new.items
+        ≡ seen_fragments out.old.items
+        ++ (map one adjectives.now.items ++ one word.now ∷ one name.now ∷ [])) }
 {
     push_adjectives(adjectives, out)?;
     push_token(out, word.copy()?)?;
@@ -79,7 +87,10 @@ fn push_code(
     body: &Vec<Item>,
     out: &mut Vec<Fragment>,
 ) -> Result<(), AllocError>
-    ensures { OnOk result (seen_fragments out.new.items ≡ seen_fragments out.old.items ++ (written_signature (seen_parameters parameters.now) ++ semicolon_mark ∷ written_body (body_of (map seen_item body.now.items)))) }
+    ensures { OnOk result (seen_fragments out.new.items
+        ≡ seen_fragments out.old.items
+        ++ (written_signature (seen_parameters parameters.now) ++ semicolon_mark
+        ∷ written_body (body_of (map seen_item body.now.items)))) }
 {
     push_signature(alloc, parameters, out)?;
     push_mark(alloc, out, b";")?;
@@ -96,7 +107,10 @@ fn push_class(
     slots: &Vec<Slot>,
     out: &mut Vec<Fragment>,
 ) -> Result<(), AllocError>
-    ensures { OnOk result (seen_fragments out.new.items ≡ seen_fragments out.old.items ++ written_form (class_form define.now adjectives.now.items name.now superclasses.now.items (map seen_slot slots.now.items))) }
+    ensures { OnOk result (seen_fragments out.new.items
+        ≡ seen_fragments out.old.items
+        ++ written_form (class_form define.now adjectives.now.items name.now superclasses.now.items
+        (map seen_slot slots.now.items))) }
 {
     let mut inner = Vec::new(alloc);
     push_head(alloc, adjectives, b"class", name, &mut inner)?;
@@ -116,7 +130,10 @@ fn push_binding(
     value: &Expression,
     out: &mut Vec<Fragment>,
 ) -> Result<(), AllocError>
-    ensures { OnOk result (seen_fragments out.new.items ≡ seen_fragments out.old.items ++ one define.now ∷ word_mark word.now ∷ (written_target (seen_target target.now) ++ equals_mark ∷ written (seen_tree value.now))) }
+    ensures { OnOk result (seen_fragments out.new.items
+        ≡ seen_fragments out.old.items ++ one define.now ∷ word_mark word.now
+        ∷ (written_target (seen_target target.now) ++ equals_mark
+        ∷ written (seen_tree value.now))) }
 {
     push_token(out, define.copy()?)?;
     push_word(alloc, out, word)?;
@@ -134,7 +151,10 @@ fn push_generic(
     parameters: &Parameters,
     out: &mut Vec<Fragment>,
 ) -> Result<(), AllocError>
-    ensures { OnOk result (seen_fragments out.new.items ≡ seen_fragments out.old.items ++ written_form (generic_form define.now adjectives.now.items name.now (seen_parameters parameters.now))) }
+    ensures { OnOk result (seen_fragments out.new.items
+        ≡ seen_fragments out.old.items
+        ++ written_form (generic_form define.now adjectives.now.items name.now
+        (seen_parameters parameters.now))) }
 {
     push_token(out, define.copy()?)?;
     push_head(alloc, adjectives, b"generic", name, out)?;
@@ -152,7 +172,10 @@ fn push_method(
     body: &Vec<Item>,
     out: &mut Vec<Fragment>,
 ) -> Result<(), AllocError>
-    ensures { OnOk result (seen_fragments out.new.items ≡ seen_fragments out.old.items ++ written_form (method_form define.now adjectives.now.items word.now name.now (seen_parameters parameters.now) (body_of (map seen_item body.now.items)))) }
+    ensures { OnOk result (seen_fragments out.new.items
+        ≡ seen_fragments out.old.items
+        ++ written_form (method_form define.now adjectives.now.items word.now name.now
+        (seen_parameters parameters.now) (body_of (map seen_item body.now.items)))) }
 {
     let mut inner = Vec::new(alloc);
     push_method_head(adjectives, word, name, &mut inner)?;
@@ -170,7 +193,10 @@ fn push_function(
     body: &Vec<Item>,
     out: &mut Vec<Fragment>,
 ) -> Result<(), AllocError>
-    ensures { OnOk result (seen_fragments out.new.items ≡ seen_fragments out.old.items ++ written_form (function_form define.now adjectives.now.items name.now (seen_parameters parameters.now) (body_of (map seen_item body.now.items)))) }
+    ensures { OnOk result (seen_fragments out.new.items
+        ≡ seen_fragments out.old.items
+        ++ written_form (function_form define.now adjectives.now.items name.now
+        (seen_parameters parameters.now) (body_of (map seen_item body.now.items)))) }
 {
     let mut inner = Vec::new(alloc);
     push_head(alloc, adjectives, b"function", name, &mut inner)?;
@@ -186,7 +212,9 @@ fn push_domain(
     types: &Vec<TypeForm>,
     out: &mut Vec<Fragment>,
 ) -> Result<(), AllocError>
-    ensures { OnOk result (seen_fragments out.new.items ≡ seen_fragments out.old.items ++ written_form (domain_form define.now name.now (map seen_type types.now.items))) }
+    ensures { OnOk result (seen_fragments out.new.items
+        ≡ seen_fragments out.old.items
+        ++ written_form (domain_form define.now name.now (map seen_type types.now.items))) }
 {
     push_token(out, define.copy()?)?;
     push_word(alloc, out, b"sealed")?;
@@ -199,7 +227,8 @@ fn push_domain(
 
 /// Adds a form.
 fn push_form(alloc: Global, form: &Form, out: &mut Vec<Fragment>) -> Result<(), AllocError>
-    ensures { OnOk result (seen_fragments out.new.items ≡ seen_fragments out.old.items ++ written_form (seen_form form.now)) }
+    ensures { OnOk result (seen_fragments out.new.items
+        ≡ seen_fragments out.old.items ++ written_form (seen_form form.now)) }
 {
     match form {
         Form::Expression(value) => push_whole(alloc, value, out),
@@ -251,17 +280,23 @@ fn push_form(alloc: Global, form: &Form, out: &mut Vec<Fragment>) -> Result<(), 
 
 /// The canonical fragments of a form (DRM, appendix A).
 ///
-/// Round brackets stand round every operand that is no leaf, round a symbol or a negative literal that is an
-/// operand, round an integer under a minus, and round a name, or a member with a name, that splits some
-/// statement. A semicolon stands behind the results of a method, and none at the end of a body. Tokens of the
-/// tree are given as they are; a word, mark or bracket that the tree does not hold is made: it has place 0 of
-/// file 0, origin 0 and module 0. The only error is that memory did not suffice.
+/// Round brackets stand round every operand that is no leaf, round a symbol or a negative literal
+/// that is an operand, round an integer under a minus, and round a name, or a member with a name,
+/// that splits some statement. A semicolon stands behind the results of a method, and none at the
+/// end of a body. Tokens of the tree are given as they are; a word, mark or bracket that the tree
+/// does not hold is made: it has place 0 of file 0, origin 0 and module 0. The only error is that
+/// memory did not suffice.
 pub fn unparse(alloc: Global, form: &Form) -> Result<Vec<Fragment>, AllocError>
-    ensures writes { IfOk result (λ fragments. seen_fragments fragments.items ≡ written_form (seen_form form.now)) }
+    ensures writes { IfOk result
+        (λ fragments. seen_fragments fragments.items ≡ written_form (seen_form form.now)) }
     // What stands for some fragments is what the fragments that are given stand for.
-    ensures stands { (fragments : List SeenFragment) → IsForm (seen_form form.now) fragments → IfOk result (λ written. IsForm (seen_form form.now) (seen_fragments written.items)) }
+    ensures stands { (fragments : List SeenFragment) → IsForm (seen_form form.now) fragments
+        → IfOk result (λ written. IsForm (seen_form form.now) (seen_fragments written.items)) }
     // It is told to be this form, where it is within the limit of depth.
-    ensures again { (fragments : List SeenFragment) → IsForm (seen_form form.now) fragments → form_depth (seen_form form.now) ≤ depth_limit → IfOk result (λ written. parsed (seen_fragments written.items) ≡ accepted (seen_form form.now)) }
+    ensures again { (fragments : List SeenFragment) → IsForm (seen_form form.now) fragments
+        → form_depth (seen_form form.now) ≤ depth_limit
+        → IfOk result (λ written. parsed (seen_fragments written.items)
+        ≡ accepted (seen_form form.now)) }
 {
     let mut out = Vec::new(alloc);
     push_form(alloc, form, &mut out)?;

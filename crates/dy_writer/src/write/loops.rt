@@ -5,16 +5,17 @@ ghost use Rattle.dy_tree.specs.Fragments.{seen_fragments};
 ghost use Rattle.dy_rules.specs.Marks.{word_mark};
 ghost use Rattle.dy_rules.specs.TypeWriting.{written_variable};
 ghost use Rattle.dy_rules.specs.SeenTypes.{seen_variable};
-ghost use Rattle.dy_rules.specs.Writing.{written_for, written_for_clause, written_limit, written_step, written_stop};
+ghost use Rattle.dy_rules.specs.Writing.{written_for, written_for_clause, written_limit};
+ghost use Rattle.dy_rules.specs.Writing.{written_step, written_stop};
 ghost use Rattle.dy_rules.specs.SeenForms.{seen_for_clause, seen_initial};
 ghost use Rattle.dy_rules.specs.Held.{held_limit, held_stop, held_clauses};
 
-use crate::write::breaks::push_between;
 use crate::write::expressions::push_whole;
-use crate::write::mark::{push_token, push_word};
-use crate::write::marks::push_equals;
-use crate::write::types::push_variable;
 use dy_tree::{Expression, ForClause, Fragment, Limit, Stop, Variable};
+use dy_write_parts::breaks::push_between;
+use dy_write_parts::mark::{push_token, push_word};
+use dy_write_parts::marks::push_equals;
+use dy_write_parts::types::push_variable;
 use std::alloc::{AllocError, Global};
 
 /// Adds clauses with commas between them.
@@ -24,7 +25,8 @@ pub fn push_loop_clauses(
     clauses: &Vec<ForClause>,
     out: &mut Vec<Fragment>,
 ) -> Result<(), AllocError>
-    ensures { OnOk result (seen_fragments out.new.items ≡ seen_fragments out.old.items ++ written_for (held_clauses clauses.now)) }
+    ensures { OnOk result (seen_fragments out.new.items
+        ≡ seen_fragments out.old.items ++ written_for (held_clauses clauses.now)) }
 {
     let mut first = true;
     for clause in clauses {
@@ -42,7 +44,9 @@ fn push_variable_and(
     word: &[u8],
     out: &mut Vec<Fragment>,
 ) -> Result<(), AllocError>
-    ensures { OnOk result (seen_fragments out.new.items ≡ seen_fragments out.old.items ++ (written_variable (seen_variable variable.now) ++ word_mark word.now ∷ [])) }
+    ensures { OnOk result (seen_fragments out.new.items
+        ≡ seen_fragments out.old.items
+        ++ (written_variable (seen_variable variable.now) ++ word_mark word.now ∷ [])) }
 {
     push_variable(alloc, variable, out)?;
     push_word(alloc, out, word)
@@ -54,7 +58,8 @@ fn push_loop_clause(
     clause: &ForClause,
     out: &mut Vec<Fragment>,
 ) -> Result<(), AllocError>
-    ensures { OnOk result (seen_fragments out.new.items ≡ seen_fragments out.old.items ++ written_for_clause (seen_for_clause clause.now)) }
+    ensures { OnOk result (seen_fragments out.new.items
+        ≡ seen_fragments out.old.items ++ written_for_clause (seen_for_clause clause.now)) }
 {
     match clause {
         ForClause::Then {
@@ -95,7 +100,8 @@ fn push_limit(
     limit: &Option<Limit>,
     out: &mut Vec<Fragment>,
 ) -> Result<(), AllocError>
-    ensures { OnOk result (seen_fragments out.new.items ≡ seen_fragments out.old.items ++ written_limit (held_limit limit.now)) }
+    ensures { OnOk result (seen_fragments out.new.items
+        ≡ seen_fragments out.old.items ++ written_limit (held_limit limit.now)) }
 {
     match limit {
         Some(limit) => {
@@ -112,7 +118,8 @@ fn push_step(
     step: &Option<Expression>,
     out: &mut Vec<Fragment>,
 ) -> Result<(), AllocError>
-    ensures { OnOk result (seen_fragments out.new.items ≡ seen_fragments out.old.items ++ written_step (seen_initial step.now)) }
+    ensures { OnOk result (seen_fragments out.new.items
+        ≡ seen_fragments out.old.items ++ written_step (seen_initial step.now)) }
 {
     match step {
         Some(step) => {
@@ -130,7 +137,8 @@ pub fn push_stop(
     stop: &Option<Box<Stop>>,
     out: &mut Vec<Fragment>,
 ) -> Result<(), AllocError>
-    ensures { OnOk result (seen_fragments out.new.items ≡ seen_fragments out.old.items ++ written_stop (held_stop stop.now)) }
+    ensures { OnOk result (seen_fragments out.new.items
+        ≡ seen_fragments out.old.items ++ written_stop (held_stop stop.now)) }
 {
     match stop {
         Some(stop) => {

@@ -3,15 +3,16 @@
 ghost use Rattle.std.specs.Prelude.{◌≡◌, ◌++◌, [], ◌∷◌, map, OnOk};
 ghost use Rattle.dy_tree.specs.Fragments.{one, seen_fragments};
 ghost use Rattle.dy_rules.specs.Writing.{written};
-ghost use Rattle.dy_rules.specs.FormWriting.{key_mark_of, written_option, written_options, written_slot, written_slots};
+ghost use Rattle.dy_rules.specs.FormWriting.{key_mark_of, written_option, written_options};
+ghost use Rattle.dy_rules.specs.FormWriting.{written_slot, written_slots};
 ghost use Rattle.dy_rules.specs.SeenForms.{seen_tree, seen_option, seen_slot};
 
 use crate::write::expressions::push_whole;
-use crate::write::mark::{push_mark, push_symbol, push_token, push_word};
-use crate::write::names::push_adjectives;
 use crate::write::parameters::push_initial;
-use crate::write::types::push_declared;
 use dy_tree::{Expression, Fragment, Slot, SlotOption, Token};
+use dy_write_parts::mark::{push_mark, push_symbol, push_token, push_word};
+use dy_write_parts::names::push_adjectives;
+use dy_write_parts::types::push_declared;
 use std::alloc::{AllocError, Global};
 
 /// Adds an option that holds a token.
@@ -21,7 +22,8 @@ fn push_token_option(
     token: &Token,
     out: &mut Vec<Fragment>,
 ) -> Result<(), AllocError>
-    ensures { OnOk result (seen_fragments out.new.items ≡ seen_fragments out.old.items ++ key_mark_of word.now ∷ one token.now ∷ []) }
+    ensures { OnOk result (seen_fragments out.new.items
+        ≡ seen_fragments out.old.items ++ key_mark_of word.now ∷ one token.now ∷ []) }
 {
     push_symbol(alloc, out, word)?;
     push_token(out, token.copy()?)
@@ -34,7 +36,8 @@ fn push_value_option(
     value: &Expression,
     out: &mut Vec<Fragment>,
 ) -> Result<(), AllocError>
-    ensures { OnOk result (seen_fragments out.new.items ≡ seen_fragments out.old.items ++ key_mark_of word.now ∷ written (seen_tree value.now)) }
+    ensures { OnOk result (seen_fragments out.new.items
+        ≡ seen_fragments out.old.items ++ key_mark_of word.now ∷ written (seen_tree value.now)) }
 {
     push_symbol(alloc, out, word)?;
     push_whole(alloc, value, out)
@@ -46,7 +49,8 @@ fn push_option(
     option: &SlotOption,
     out: &mut Vec<Fragment>,
 ) -> Result<(), AllocError>
-    ensures { OnOk result (seen_fragments out.new.items ≡ seen_fragments out.old.items ++ written_option (seen_option option.now)) }
+    ensures { OnOk result (seen_fragments out.new.items
+        ≡ seen_fragments out.old.items ++ written_option (seen_option option.now)) }
 {
     match option {
         SlotOption::InitKeyword(token) => push_token_option(alloc, b"init-keyword", token, out),
@@ -65,7 +69,8 @@ fn push_options(
     options: &Vec<SlotOption>,
     out: &mut Vec<Fragment>,
 ) -> Result<(), AllocError>
-    ensures { OnOk result (seen_fragments out.new.items ≡ seen_fragments out.old.items ++ written_options (map seen_option options.now.items)) }
+    ensures { OnOk result (seen_fragments out.new.items
+        ≡ seen_fragments out.old.items ++ written_options (map seen_option options.now.items)) }
 {
     for option in options {
         push_mark(alloc, out, b",")?;
@@ -76,7 +81,8 @@ fn push_options(
 
 /// Adds a slot.
 fn push_slot(alloc: Global, slot: &Slot, out: &mut Vec<Fragment>) -> Result<(), AllocError>
-    ensures { OnOk result (seen_fragments out.new.items ≡ seen_fragments out.old.items ++ written_slot (seen_slot slot.now)) }
+    ensures { OnOk result (seen_fragments out.new.items
+        ≡ seen_fragments out.old.items ++ written_slot (seen_slot slot.now)) }
 {
     push_adjectives(&slot.adjectives, out)?;
     push_word(alloc, out, b"slot")?;
@@ -92,7 +98,8 @@ pub fn push_slots(
     slots: &Vec<Slot>,
     out: &mut Vec<Fragment>,
 ) -> Result<(), AllocError>
-    ensures { OnOk result (seen_fragments out.new.items ≡ seen_fragments out.old.items ++ written_slots (map seen_slot slots.now.items)) }
+    ensures { OnOk result (seen_fragments out.new.items
+        ≡ seen_fragments out.old.items ++ written_slots (map seen_slot slots.now.items)) }
 {
     for slot in slots {
         push_slot(alloc, slot, out)?;

@@ -11,13 +11,13 @@ ghost use Rattle.dy_writer.specs.Plain.{before_body, main_body, behind_body, las
 
 use crate::write::blocks::{push_clauses, push_exit};
 use crate::write::bodies::push_body;
-use crate::write::breaks::{push_choice_break, push_clause_break};
 use crate::write::choices::{push_arms, push_selector};
 use crate::write::expressions::push_whole;
 use crate::write::loops::{push_loop_clauses, push_stop};
-use crate::write::mark::{push_mark, push_round, push_word};
 use crate::write::parameters::push_signature;
 use dy_tree::{Alternative, Expression, Fragment, Item, Statement};
+use dy_write_parts::breaks::{push_choice_break, push_clause_break};
+use dy_write_parts::mark::{push_mark, push_round, push_word};
 use std::alloc::{AllocError, Global};
 
 /// Adds what stands before the body of a statement.
@@ -27,7 +27,8 @@ pub fn push_before_body(
     statement: &Statement,
     out: &mut Vec<Fragment>,
 ) -> Result<(), AllocError>
-    ensures { OnOk result (seen_fragments out.new.items ≡ seen_fragments out.old.items ++ before_body (seen_statement statement.now)) }
+    ensures { OnOk result (seen_fragments out.new.items
+        ≡ seen_fragments out.old.items ++ before_body (seen_statement statement.now)) }
 {
     match statement {
         Statement::Begin { .. } | Statement::Case { .. } => Ok(()),
@@ -62,7 +63,8 @@ pub fn push_main_body(
     statement: &Statement,
     out: &mut Vec<Fragment>,
 ) -> Result<(), AllocError>
-    ensures { OnOk result (seen_fragments out.new.items ≡ seen_fragments out.old.items ++ main_body (seen_statement statement.now)) }
+    ensures { OnOk result (seen_fragments out.new.items
+        ≡ seen_fragments out.old.items ++ main_body (seen_statement statement.now)) }
 {
     match statement {
         Statement::Begin { body, .. }
@@ -82,7 +84,8 @@ pub fn push_behind_body(
     statement: &Statement,
     out: &mut Vec<Fragment>,
 ) -> Result<(), AllocError>
-    ensures { OnOk result (seen_fragments out.new.items ≡ seen_fragments out.old.items ++ behind_body (seen_statement statement.now)) }
+    ensures { OnOk result (seen_fragments out.new.items
+        ≡ seen_fragments out.old.items ++ behind_body (seen_statement statement.now)) }
 {
     match statement {
         Statement::If {
@@ -116,7 +119,8 @@ pub fn push_behind_body(
 /// Adds a test in round brackets.
 #[cycle(write)]
 fn push_test(alloc: Global, test: &Expression, out: &mut Vec<Fragment>) -> Result<(), AllocError>
-    ensures { OnOk result (seen_fragments out.new.items ≡ seen_fragments out.old.items ++ in_round (written (seen_tree test.now)) ∷ []) }
+    ensures { OnOk result (seen_fragments out.new.items
+        ≡ seen_fragments out.old.items ++ in_round (written (seen_tree test.now)) ∷ []) }
 {
     let mut inner = Vec::new(alloc);
     push_whole(alloc, test, &mut inner)?;
@@ -129,7 +133,9 @@ fn push_alternatives(
     alternatives: &Vec<Alternative>,
     out: &mut Vec<Fragment>,
 ) -> Result<(), AllocError>
-    ensures { OnOk result (seen_fragments out.new.items ≡ seen_fragments out.old.items ++ written_alternatives (alternatives_of (map held_alternative alternatives.now.items))) }
+    ensures { OnOk result (seen_fragments out.new.items
+        ≡ seen_fragments out.old.items
+        ++ written_alternatives (alternatives_of (map held_alternative alternatives.now.items))) }
 {
     for alternative in alternatives {
         push_alternative(alloc, alternative, out)?;
@@ -143,7 +149,8 @@ fn push_alternative(
     alternative: &Alternative,
     out: &mut Vec<Fragment>,
 ) -> Result<(), AllocError>
-    ensures { OnOk result (seen_fragments out.new.items ≡ seen_fragments out.old.items ++ written_alternative (held_alternative alternative.now)) }
+    ensures { OnOk result (seen_fragments out.new.items
+        ≡ seen_fragments out.old.items ++ written_alternative (held_alternative alternative.now)) }
 {
     push_word(alloc, out, b"elseif")?;
     push_test(alloc, &alternative.test, out)?;
@@ -158,7 +165,8 @@ fn push_last(
     word: &[u8],
     out: &mut Vec<Fragment>,
 ) -> Result<(), AllocError>
-    ensures { OnOk result (seen_fragments out.new.items ≡ seen_fragments out.old.items ++ last_body word.now (held_last body.now)) }
+    ensures { OnOk result (seen_fragments out.new.items
+        ≡ seen_fragments out.old.items ++ last_body word.now (held_last body.now)) }
 {
     match body {
         Some(body) => {

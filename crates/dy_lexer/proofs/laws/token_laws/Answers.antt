@@ -1,7 +1,7 @@
-use Rattle.dy_lexer.proofs.Munch.{exact}
+use Rattle.dy_pieces.proofs.Munch.{exact}
 use Rattle.dy_lexer.proofs.Whole.{judged, complete, complete_fault, unique, unique_fault, exclusive}
-use Rattle.dy_lexer.proofs.Spellings.{characters_law}
-use Rattle.dy_lexer.proofs.Closers.{literal_law, comment_law}
+use Rattle.dy_pieces.proofs.Spellings.{characters_law}
+use Rattle.dy_pieces.proofs.Closers.{literal_law, comment_law}
 use Rattle.dy_lexer.proofs.OneReading.{one_header, one_source, one_first, source_or_fault, one_lid, one_lid_fault, lid_or_fault}
 use Rattle.dy_lexer.proofs.FileNames.{lid_names}
 use Rattle.dy_lexer.proofs.laws.token_laws.Goals as goal

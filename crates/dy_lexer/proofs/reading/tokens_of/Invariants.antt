@@ -1,5 +1,5 @@
 use Rattle.std.proofs.Common.{◌≡◌, ℕ, ◌+◌, ◌≤◌, length, []}
-use Rattle.dy_lexer.specs.Pieces.{IsNameless}
+use Rattle.dy_pieces.specs.Pieces.{IsNameless}
 use Rattle.dy_lexer.specs.Tokens.{tokens_of, joined_after}
 use Rattle.dy_lexer.proofs.reading.tokens_of.Given as goal
 

@@ -16,7 +16,8 @@ use Rattle.dy_rules.specs.Trees as trees
 use Rattle.dy_rules.specs.TypeWriting.{written_type, written_results, required_joined, next_joined, rest_joined}
 use Rattle.dy_rules.specs.Writing.{written, written_argument, written_arguments, written_item, written_body, written_method, written_methods, written_alternative, written_alternatives, written_arm, written_arms, written_tests, written_clause, written_clauses, written_for_clause, written_for, written_key, first_keys, written_caught, written_stop, written_signature, written_keys, written_all}
 use Rattle.dy_rules.specs.Held.{held_alternative, held_arm, held_key, held_arms, held_body, held_last, held_keys, held_clauses, held_stop}
-use Rattle.dy_writer.specs.Plain.{behind_first, before_body, main_body, behind_body, last_body, choice_break, clause_break}
+use Rattle.dy_write_parts.specs.Breaks.{choice_break, clause_break}
+use Rattle.dy_writer.specs.Plain.{behind_first, before_body, main_body, behind_body, last_body}
 use Rattle.dy_writer.proofs.Appends.{two_parts, three_parts}
 use Rattle.dy_writer.proofs.Joined.{first_step, items_step, parts_step}
 use Rattle.dy_writer.proofs.Links.{at_call, at_if, at_block, at_for, at_local, at_afterwards, at_cleanup, at_exception, at_method, at_keys, at_parameters, at_case, at_select, at_loop, begin_body, method_body, if_body, guarded_body, block_body, for_body}

@@ -4,7 +4,7 @@ use Rattle.dy_rules.specs.SeenForms.{seen_tree, seen_argument, seen_item, seen_m
 use Rattle.dy_rules.specs.Trees as trees
 use Rattle.dy_rules.specs.Writing.{written_arguments, written_body, written_methods, written_alternatives, written_arms, written_tests, written_clauses, written_for, first_keys}
 use Rattle.dy_rules.specs.Held.{held_alternative, held_arm, held_key}
-use Rattle.dy_writer.specs.Parts.{is_none_of}
+use Rattle.dy_write_parts.specs.Parts.{is_none_of}
 use Rattle.dy_writer.proofs.write.+write.Given as goal
 
 -- A part is smaller than the expression that holds it. Where a call passes on all that it was given, the added number falls.

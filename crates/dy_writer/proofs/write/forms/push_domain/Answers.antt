@@ -7,7 +7,7 @@ use Rattle.dy_rules.specs.Types.{types_of}
 use Rattle.dy_rules.specs.Marks.{in_round, word_mark}
 use Rattle.dy_rules.specs.TypeWriting.{written_types}
 use Rattle.dy_rules.specs.SeenTypes.{seen_type}
-use Rattle.dy_writer.proofs.Separated.{two_parts}
+use Rattle.dy_write_parts.proofs.Separated.{two_parts}
 use Rattle.dy_writer.proofs.write.forms.push_domain.Goals as goal
 
 pub returns : goal.returns

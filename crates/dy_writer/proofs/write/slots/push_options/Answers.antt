@@ -3,8 +3,8 @@ use Rattle.dy_tree.specs.Fragments.{seen_fragments}
 use Rattle.dy_rules.specs.Marks.{comma_mark}
 use Rattle.dy_rules.specs.FormWriting.{written_option, written_options}
 use Rattle.dy_rules.specs.SeenForms.{seen_option}
-use Rattle.dy_writer.proofs.Separated.{two_parts, flat_step}
-use Rattle.dy_writer.proofs.Lists.{options_flat}
+use Rattle.dy_write_parts.proofs.Separated.{two_parts, flat_step}
+use Rattle.dy_write_parts.proofs.Lists.{options_flat}
 use Rattle.dy_writer.proofs.write.slots.push_options.Goals as goal
 
 pub loop-option-preserved : goal.loop-option-preserved

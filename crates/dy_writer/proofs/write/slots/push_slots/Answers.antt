@@ -3,8 +3,8 @@ use Rattle.dy_tree.specs.Fragments.{seen_fragments}
 use Rattle.dy_rules.specs.Marks.{semicolon_mark}
 use Rattle.dy_rules.specs.FormWriting.{written_slot, written_slots}
 use Rattle.dy_rules.specs.SeenForms.{seen_slot}
-use Rattle.dy_writer.proofs.Separated.{two_parts, flat_step}
-use Rattle.dy_writer.proofs.Lists.{slot_part, slots_flat}
+use Rattle.dy_write_parts.proofs.Separated.{two_parts, flat_step}
+use Rattle.dy_write_parts.proofs.Lists.{slot_part, slots_flat}
 use Rattle.dy_writer.proofs.write.slots.push_slots.Goals as goal
 
 pub loop-slot-preserved : goal.loop-slot-preserved

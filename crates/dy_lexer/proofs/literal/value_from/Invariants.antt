@@ -1,9 +1,0 @@
-use Rattle.std.proofs.Common.{◌≡◌, ◌≤◌, drop}
-use Rattle.dy_lexer.specs.Tokens.{value_from}
-use Rattle.dy_lexer.proofs.literal.value_from.Given as goal
-
-abbrev pub invariant-loop-b : goal.invariant-loop-b
-invariant-loop-b l = record {
-  small : l.n ≤ 9223372036854775807;
-  same : value_from l.base 0 l.fn.digits ≡ value_from l.base l.n (drop l.b-index l.digits);
-}

@@ -1,6 +1,0 @@
-use Rattle.std.proofs.Common.{◌∙◌, arith}
-use Rattle.dy_lexer.proofs.Steps.{name_len-graphic}
-use Rattle.dy_lexer.proofs.piece.name_len.Goals as goal
-
-pub loop-i-preserved : goal.loop-i-preserved
-loop-i-preserved c = c.loop-i.invariant ∙ name_len-graphic c.args.bytes.now c.loop-i.i (omega arith) c.in-Graphic.ensures

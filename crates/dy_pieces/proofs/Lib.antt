@@ -1,0 +1,14 @@
+pub mod Steps
+pub mod Numbers
+pub mod Runs
+pub mod Lists
+pub mod Heads
+pub mod Simple
+pub mod Signs
+pub mod Named
+pub mod Escaped
+pub mod Variables
+pub mod Hashes
+pub mod Munch
+pub mod Spellings
+pub mod Closers

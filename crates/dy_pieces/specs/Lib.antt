@@ -1,0 +1,9 @@
+pub mod Bytes
+pub mod Words
+pub mod Scan
+pub mod Characters
+pub mod Enclosed
+pub mod Literals
+pub mod Numbers
+pub mod Pieces
+pub mod Forms
