@@ -6,17 +6,18 @@ use Rattle.std.specs.Io.KnownBytes.{Appends}
 use Rattle.std.proofs.lemmas.List.{take_all, append-nil}
 use Rattle.dy_io.specs.Files.{FileMap}
 use Rattle.dy_io.specs.Sinks.{AppendsFront}
-use Rattle.dy_build.specs.declared.run.execute.RunEnd.{RunEnd}
-use Rattle.dy_build.specs.declared.run.execute.RunEnd.TheVariants as ends
-use Rattle.dy_build.specs.declared.refused.Refused.{Refused}
-use Rattle.dy_build.specs.Refusals.{refusal_line}
+use Rattle.dy_engine.specs.declared.execute.RunEnd.{RunEnd}
+use Rattle.dy_engine.specs.declared.execute.RunEnd.TheVariants as ends
+use Rattle.dy_sources.specs.declared.refused.Refused.{Refused}
+use Rattle.dy_sources.specs.Refusals.{refusal_line}
 use Rattle.dy_build.specs.Lines.{unhandled_line}
-use Rattle.dy_build.specs.Meaning.{Outcome, Gave, Exits, Ended, Spent}
-use Rattle.dy_build.specs.Machine.{Final, Finished, Failed, OutOfFuel, Unfinished}
-use Rattle.dy_build.specs.Code.{final_of}
-use Rattle.dy_build.specs.Endings.{EndsAs, Sends, sent_by}
+use Rattle.dy_engine.specs.Meaning.{Outcome, Gave, Exits, Ended, Spent}
+use Rattle.dy_engine.specs.Machine.{Final, Finished, Failed, OutOfFuel, Unfinished}
+use Rattle.dy_engine.specs.Code.{final_of}
+use Rattle.dy_engine.specs.Endings.{EndsAs, Sends, sent_by}
 use Rattle.dy_build.specs.Words.{Build, usage_text}
-use Rattle.dy_build.specs.Outcome.{Report, Verdict, refused, run_report, build_report, usage_report, IsVerdict, IsCommand}
+use Rattle.dy_sources.specs.Verdicts.{Verdict, refused, IsVerdict}
+use Rattle.dy_build.specs.Outcome.{Report, run_report, build_report, usage_report, IsCommand}
 use Rattle.dy_build.specs.Command.{PutsLine, final_report, Closes, Outputs, outputs, Nothing, SentFront, Finishes, Done, TellsFault, TellsFaultOf}
 
 pub appends_front : (old new : Option (List ℕ)) (bytes : List ℕ) → Appends old new bytes → AppendsFront old new bytes

@@ -5,34 +5,41 @@ use Rattle.std.specs.Io.KnownBytes.{Appends}
 use Rattle.dy_base.specs.declared.kind.Kind.TheVariants.{NoFile}
 use Rattle.dy_io.specs.Causes.{Rose}
 use Rattle.dy_io.specs.Sinks.{AppendsFront}
-use Rattle.dy_build.specs.declared.refused.Refused.{Refused}
-use Rattle.dy_build.specs.declared.run.execute.RunEnd.{RunEnd}
-use Rattle.dy_build.specs.declared.run.execute.RunEnd.TheVariants as ends
-use Rattle.dy_build.specs.Refusals.{refusal_line}
+use Rattle.dy_sources.specs.declared.refused.Refused.{Refused}
+use Rattle.dy_engine.specs.declared.execute.RunEnd.{RunEnd}
+use Rattle.dy_engine.specs.declared.execute.RunEnd.TheVariants as ends
+use Rattle.dy_sources.specs.Refusals.{refusal_line}
 use Rattle.dy_build.specs.Lines.{file_fault_line, unhandled_line, out_of_fuel_line}
-use Rattle.dy_build.specs.Machine.{Final, Finished, Failed, OutOfFuel, Unfinished}
+use Rattle.dy_engine.specs.Machine.{Final, Finished, Failed, OutOfFuel, Unfinished}
 use Rattle.dy_io.specs.Files.{FileMap}
 use Rattle.dy_build.specs.Words.{Build}
-use Rattle.dy_build.specs.Judged.{NamesFile}
+use Rattle.dy_sources.specs.Judged.{NamesFile}
 use Rattle.dy_build.specs.Outcome.{Report, IsOutcome}
 
--- The line was sent and the status is the given one; or the sink or memory failed, and a front of it was sent.
+-- The line was sent and the status is the given one; or the sink or memory failed, and a front of
+-- it was sent.
 abbrev pub PutsLine : ℕ → List ℕ → ℕ → Option (List ℕ) → Option (List ℕ) → Type 0
 PutsLine status line result old new =
-    ((result ≡ status) × Appends old new line) ⊎ (((result ≡ 5) ⊎ (result ≡ 6)) × AppendsFront old new line)
+    ((result ≡ status) × Appends old new line)
+    ⊎ (((result ≡ 5) ⊎ (result ≡ 6)) × AppendsFront old new line)
 
 -- the report of a run that the machine ended so
 abbrev pub final_report : Final → Report
 final_report (Finished state) = record { status = 0; out = concat state.pieces; err = [] }
-final_report (Failed error state) = record { status = 1; out = concat state.pieces; err = unhandled_line error }
-final_report (OutOfFuel state) = record { status = 7; out = concat state.pieces; err = out_of_fuel_line }
+final_report (Failed error state) =
+    record { status = 1; out = concat state.pieces; err = unhandled_line error }
+final_report (OutOfFuel state) =
+    record { status = 7; out = concat state.pieces; err = out_of_fuel_line }
 final_report (Unfinished state) = record { status = 7; out = concat state.pieces; err = [] }
 
 -- what closing a run that ended so does to the error output
 abbrev pub Closes : RunEnd → Final → ℕ → Option (List ℕ) → Option (List ℕ) → Type 0
-Closes ends.WriteFault final result old new = (result ≡ 5) × AppendsFront old new (final_report final).err
-Closes ends.NoMemory final result old new = (result ≡ 6) × AppendsFront old new (final_report final).err
-Closes _ final result old new = PutsLine (final_report final).status (final_report final).err result old new
+Closes ends.WriteFault final result old new = (result ≡ 5)
+    × AppendsFront old new (final_report final).err
+Closes ends.NoMemory final result old new = (result ≡ 6)
+    × AppendsFront old new (final_report final).err
+Closes _ final result old new =
+    PutsLine (final_report final).status (final_report final).err result old new
 
 -- what the output and the error output held before and hold now
 pub record Outputs : Type 0 where
@@ -43,7 +50,13 @@ pub record Outputs : Type 0 where
 
 abbrev pub outputs : Option (List ℕ) → Option (List ℕ) → Option (List ℕ) → Option (List ℕ) → Outputs
 outputs out_before out_now err_before err_now =
-    record { out_before = out_before; out_now = out_now; err_before = err_before; err_now = err_now }
+    record {
+      out_before = out_before;
+      out_now = out_now;
+      err_before = err_before;
+      err_now =
+          err_now;
+    }
 
 -- nothing was sent
 abbrev pub Nothing : Outputs → Type 0
@@ -59,21 +72,28 @@ pub record SentFront (report : Report) (outputs : Outputs) : Type 0 where
   pub out : AppendsFront outputs.out_before outputs.out_now report.out
   pub err : AppendsFront outputs.err_before outputs.err_now report.err
 
--- The report was sent and the status is its own; or a sink or memory failed, and a front of it was sent.
+-- The report was sent and the status is its own; or a sink or memory failed, and a front of it was
+-- sent.
 abbrev pub Finishes : Report → ℕ → Outputs → Type 0
 Finishes report result outputs =
-    ((result ≡ report.status) × Sent report outputs) ⊎ (((result ≡ 5) ⊎ (result ≡ 6)) × SentFront report outputs)
+    ((result ≡ report.status) × Sent report outputs)
+    ⊎ (((result ≡ 5) ⊎ (result ≡ 6)) × SentFront report outputs)
 
--- A refusal was told by its line, and nothing went to the output. An absent file is told only where the misses rose.
+-- A refusal was told by its line, and nothing went to the output. An absent file is told only where
+-- the misses rose.
 abbrev pub Refuses : ℕ → ℕ → Outputs → Type 0
 Refuses misses_before misses_now outputs =
-    (why : Refused) × Appends outputs.err_before outputs.err_now (refusal_line why) × (outputs.out_now ≡ outputs.out_before)
+    (why : Refused) × Appends outputs.err_before outputs.err_now (refusal_line why)
+    × (outputs.out_now ≡ outputs.out_before)
     × (why.kind ≡ NoFile → Rose misses_before misses_now)
 
--- The line of a file that failed was sent, or a front of it, and nothing went to the output. The file is one that is read for this LID file.
+-- The line of a file that failed was sent, or a front of it, and nothing went to the output. The
+-- file is one that is read for this LID file.
 abbrev pub TellsFault : Option FileMap → List ℕ → Outputs → Type 0
 TellsFault contents lid outputs =
-    (name : List ℕ) × NamesFile contents lid name × AppendsFront outputs.err_before outputs.err_now (file_fault_line name) × (outputs.out_now ≡ outputs.out_before)
+    (name : List ℕ) × NamesFile contents lid name
+    × AppendsFront outputs.err_before outputs.err_now (file_fault_line name)
+    × (outputs.out_now ≡ outputs.out_before)
 
 -- the same of the LID file that the words name
 abbrev pub TellsFaultOf : Option Build → Option FileMap → Outputs → Type 0
@@ -86,8 +106,10 @@ Done report result outputs = (result ≡ report.status) × Sent report outputs
 
 -- what the words come to over these files was sent, with its status
 abbrev pub Outcomes : List (List ℕ) → FileMap → ℕ → Outputs → Type 0
-Outcomes words files result outputs = (report : Report) × IsOutcome words files report × Done report result outputs
+Outcomes words files result outputs = (report : Report) × IsOutcome words files report
+    × Done report result outputs
 
 -- a front of what the words come to over these files was sent, or nothing
 abbrev pub CutsShort : List (List ℕ) → FileMap → Outputs → Type 0
-CutsShort words files outputs = Nothing outputs ⊎ ((report : Report) × IsOutcome words files report × SentFront report outputs)
+CutsShort words files outputs = Nothing outputs
+    ⊎ ((report : Report) × IsOutcome words files report × SentFront report outputs)

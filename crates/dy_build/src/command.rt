@@ -1,27 +1,29 @@
 //! The commands, from their words to the exit status.
 
-ghost use Rattle.std.specs.Prelude.{◌≡◌, ◌≢◌, ◌≤◌, ◌⊎◌, ◌++◌, ℕ, List, length, Some, None, map, string_bytes};
+ghost use Rattle.std.specs.Prelude.{◌≡◌, ◌≢◌, ◌≤◌, ◌⊎◌, ◌++◌, ℕ, List, length, Some, None, map};
+ghost use Rattle.std.specs.Prelude.{string_bytes};
 ghost use Rattle.dy_io.specs.Causes.{Rose};
 ghost use Rattle.dy_io.specs.Files.{FileMap};
 ghost use Rattle.dy_runnable.specs.Core.{seen_program};
-ghost use Rattle.dy_build.specs.Meaning.{program_meaning};
-ghost use Rattle.dy_build.specs.Machine.{Final};
-ghost use Rattle.dy_build.specs.Endings.{EndsAs};
-ghost use Rattle.dy_build.specs.Refusals.{refusal_line};
-ghost use Rattle.dy_build.specs.Outcome.{Verdict, run_report, build_report, usage_report, IsVerdict};
-ghost use Rattle.dy_build.specs.Command.{PutsLine, Closes, Finishes, Refuses, TellsFault, TellsFaultOf, Done, Nothing, Outcomes, CutsShort, outputs};
+ghost use Rattle.dy_engine.specs.Meaning.{program_meaning};
+ghost use Rattle.dy_engine.specs.Machine.{Final};
+ghost use Rattle.dy_engine.specs.Endings.{EndsAs};
+ghost use Rattle.dy_sources.specs.Refusals.{refusal_line};
+ghost use Rattle.dy_sources.specs.Verdicts.{Verdict, IsVerdict};
+ghost use Rattle.dy_build.specs.Outcome.{run_report, build_report, usage_report};
+ghost use Rattle.dy_build.specs.Command.{PutsLine, Closes, Finishes, Refuses, TellsFault};
+ghost use Rattle.dy_build.specs.Command.{TellsFaultOf, Done, Nothing, Outcomes, CutsShort, outputs};
 ghost use Rattle.dy_build.specs.Words.{build_of};
-ghost use Rattle.dy_build.specs.Points.{point_behind, point_at};
+ghost use Rattle.dy_sources.specs.Points.{point_behind, point_at};
 ghost use Rattle.dy_build.specs.Lines.{file_fault_line};
 ghost use Rattle.dy_io.specs.Sinks.{AppendsFront};
 
-use crate::refused::{Refused, file_fault_line, out_of_fuel_line, refusal_line, unhandled_line};
-use crate::run::execute::{RunEnd, run};
-use crate::run::lower::lower;
-use crate::source::{Halt, read_program};
+use crate::lines::{file_fault_line, out_of_fuel_line, unhandled_line};
 use crate::words::{BuildCommand, build_words, usage};
+use dy_engine::{RunEnd, lower, run};
 use dy_io::{Files, Sink, WriteFail};
 use dy_runnable::Program;
+use dy_sources::{Halt, Refused, read_program, refusal_line};
 use std::alloc::Global;
 
 /// Sends the last line of a command, and answers the status: the given one, or that of the failure.
@@ -39,8 +41,10 @@ fn put_line<E: Sink>(err: &mut E, line: &[u8], status: u8) -> u8
 
 /// Sends the last line of a run that ended so, if it has one, and answers the status.
 fn finish<E: Sink>(alloc: Global, end: RunEnd, err: &mut E) -> u8
-    ensures closes { (final : Final) → EndsAs end final → Closes end final result (E.contents err.old) (E.contents err.new) }
-    ensures fault { result ≡ 5 → (end ≡ RunEnd.WriteFault) ⊎ Rose (E.faults err.old) (E.faults err.new) }
+    ensures closes { (final : Final) → EndsAs end final
+        → Closes end final result (E.contents err.old) (E.contents err.new) }
+    ensures fault { result ≡ 5 → (end ≡ RunEnd.WriteFault)
+        ⊎ Rose (E.faults err.old) (E.faults err.new) }
     ensures faults { E.faults err.old ≤ E.faults err.new }
 {
     match end {
@@ -63,8 +67,12 @@ fn run_program<O: Sink, E: Sink>(
     out: &mut O,
     err: &mut E,
 ) -> u8
-    ensures finishes { Finishes (run_report (program_meaning (seen_program program.now) fuel)) result (outputs (O.contents out.old) (O.contents out.new) (E.contents err.old) (E.contents err.new)) }
-    ensures fault { result ≡ 5 → Rose (O.faults out.old) (O.faults out.new) ⊎ Rose (E.faults err.old) (E.faults err.new) }
+    ensures finishes { Finishes
+        (run_report (program_meaning (seen_program program.now) fuel)) result
+        (outputs (O.contents out.old) (O.contents out.new) (E.contents err.old)
+        (E.contents err.new)) }
+    ensures fault { result ≡ 5 → Rose (O.faults out.old) (O.faults out.new)
+        ⊎ Rose (E.faults err.old) (E.faults err.new) }
     ensures out_faults { O.faults out.old ≤ O.faults out.new }
     ensures err_faults { E.faults err.old ≤ E.faults err.new }
 {
@@ -79,7 +87,8 @@ fn run_program<O: Sink, E: Sink>(
 
 /// Sends the line of a refusal.
 fn refuse<E: Sink>(alloc: Global, why: &Refused, err: &mut E) -> u8
-    ensures puts { PutsLine 2 (refusal_line why.now) result (E.contents err.old) (E.contents err.new) }
+    ensures puts { PutsLine 2 (refusal_line why.now) result (E.contents err.old)
+        (E.contents err.new) }
     ensures fault { result ≡ 5 → Rose (E.faults err.old) (E.faults err.new) }
     ensures faults { E.faults err.old ≤ E.faults err.new }
 {
@@ -91,7 +100,9 @@ fn refuse<E: Sink>(alloc: Global, why: &Refused, err: &mut E) -> u8
 
 /// Sends the line of a file that failed. The status stays where this line cannot be sent.
 fn report_fault<E: Sink>(alloc: Global, name: &[u8], err: &mut E) -> u8
-    ensures line { ((result ≡ 4) × AppendsFront (E.contents err.old) (E.contents err.new) (file_fault_line name.now)) ⊎ ((result ≡ 6) × (E.contents err.new ≡ E.contents err.old)) }
+    ensures line { ((result ≡ 4)
+        × AppendsFront (E.contents err.old) (E.contents err.new) (file_fault_line name.now))
+        ⊎ ((result ≡ 6) × (E.contents err.new ≡ E.contents err.old)) }
     ensures faults { E.faults err.old ≤ E.faults err.new }
 {
     match file_fault_line(alloc, name) {
@@ -112,8 +123,17 @@ fn build<F: Files, O: Sink, E: Sink>(
     out: &mut O,
     err: &mut E,
 ) -> u8
-    ensures finishes { (held : FileMap) → F.contents files.old ≡ Some held → (result ≡ 4) ⊎ (((result ≡ 6) × Nothing (outputs (O.contents out.old) (O.contents out.new) (E.contents err.old) (E.contents err.new))) ⊎ ((verdict : Verdict) × IsVerdict held lid.now verdict × Finishes (build_report fuel verdict) result (outputs (O.contents out.old) (O.contents out.new) (E.contents err.old) (E.contents err.new)))) }
-    ensures refused { result ≡ 2 → Refuses (F.misses files.old) (F.misses files.new) (outputs (O.contents out.old) (O.contents out.new) (E.contents err.old) (E.contents err.new)) }
+    ensures finishes { (held : FileMap) → F.contents files.old ≡ Some held → (result ≡ 4)
+        ⊎ (((result ≡ 6) × Nothing
+        (outputs (O.contents out.old) (O.contents out.new) (E.contents err.old)
+        (E.contents err.new))) ⊎ ((verdict : Verdict) × IsVerdict held lid.now verdict
+        × Finishes (build_report fuel verdict) result
+        (outputs (O.contents out.old) (O.contents out.new) (E.contents err.old)
+        (E.contents err.new)))) }
+    ensures refused { result ≡ 2
+        → Refuses (F.misses files.old) (F.misses files.new)
+        (outputs (O.contents out.old) (O.contents out.new) (E.contents err.old)
+        (E.contents err.new)) }
     ensures accepted { result ≢ 3 }
     ensures failed { result ≡ 4 → Rose (F.faults files.old) (F.faults files.new) }
     ensures failed_line { result ≡ 4
@@ -121,7 +141,8 @@ fn build<F: Files, O: Sink, E: Sink>(
         (outputs (O.contents out.old) (O.contents out.new)
         (E.contents err.old) (E.contents err.new)) }
     ensures status { result ≤ 7 }
-    ensures cut { result ≡ 5 → Rose (O.faults out.old) (O.faults out.new) ⊎ Rose (E.faults err.old) (E.faults err.new) }
+    ensures cut { result ≡ 5 → Rose (O.faults out.old) (O.faults out.new)
+        ⊎ Rose (E.faults err.old) (E.faults err.new) }
     ensures contents { F.contents files.new ≡ F.contents files.old }
     ensures misses { F.misses files.old ≤ F.misses files.new }
     ensures faults { F.faults files.old ≤ F.faults files.new }
@@ -152,11 +173,15 @@ fn build<F: Files, O: Sink, E: Sink>(
 /// | 6 | memory ran out | nothing more |
 /// | 7 | the program spent its fuel and wanted one unit more | `out of fuel` |
 ///
-/// After 5 and 6 a front of the whole output was sent, or nothing. `NAME` is the LID file, or one of
-/// the source files that it names.
+/// After 4 the line was sent, or a front of it where `err` failed too. After 5 and 6 a front of the
+/// whole output was sent, or nothing. `NAME` is the LID file, or one of the source files that it
+/// names.
 ///
-/// Where the files do not tell what they hold, as those of the host do not, the clauses say which
-/// status and which bytes come together, and not why.
+/// Where the files do not tell what they hold, as those of the host do not, the clauses speak of
+/// statuses 2 to 5 alone. With 2 comes the line of a refusal, which says that a file is absent only
+/// where the files missed one; with 3 the usage, only where the words are not accepted; with 4 the
+/// line of the LID file or of a file of a printable name beside it, only where a file failed; and 5
+/// comes only where a sink failed. Of 0, 1 and 7 they say nothing.
 pub fn run_words<F: Files, O: Sink, E: Sink>(
     alloc: Global,
     words: &Vec<String>,
@@ -205,7 +230,8 @@ pub fn run_words<F: Files, O: Sink, E: Sink>(
     ensures err_faults { E.faults err.old ≤ E.faults err.new }
 
     // A place is told by what stands before it.
-    ensures places { (front rest : List ℕ) → point_at (front ++ rest) (length front) ≡ point_behind front }
+    ensures places { (front rest : List ℕ)
+        → point_at (front ++ rest) (length front) ≡ point_behind front }
 {
     match build_words(words) {
         Some(BuildCommand { fuel, lid }) => build(alloc, lid, fuel, files, out, err),

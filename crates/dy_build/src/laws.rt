@@ -6,6 +6,8 @@ ghost use Rattle.dy_build.specs.Outcome.{Report, IsOutcome};
 
 /// What holds of the outcomes of every command over all files.
 pub fn outcome_laws()
-    // No command has two outcomes: the status and the bytes that are sent are determined by the words and the files.
-    ensures one { (words : List (List ℕ)) (files : FileMap) (a b : Report) → IsOutcome words files a → IsOutcome words files b → a ≡ b }
+    // No command has two outcomes: the status and the bytes that are sent are determined by the
+    // words and the files.
+    ensures one { (words : List (List ℕ)) (files : FileMap) (a b : Report) → IsOutcome words files a
+        → IsOutcome words files b → a ≡ b }
 {}

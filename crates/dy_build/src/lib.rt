@@ -3,11 +3,7 @@
 
 mod command;
 mod laws;
-mod names;
-mod point;
-mod refused;
-mod run;
-mod source;
+mod lines;
 mod words;
 
 pub use command::run_words;

@@ -4,7 +4,8 @@ ghost use Rattle.std.specs.Prelude.{◌≡◌, map, option_map, string_bytes};
 ghost use Rattle.std.specs.List.{list_all};
 ghost use Rattle.std.specs.Char.{is_ascii_digit};
 ghost use Rattle.dy_build.specs.Parts.{seen_build};
-ghost use Rattle.dy_build.specs.Words.{begins_with_hyphen, is_file_word, is_fuel_word, fuel_of, build_of, usage_text};
+ghost use Rattle.dy_build.specs.Words.{begins_with_hyphen, is_file_word, is_fuel_word, fuel_of};
+ghost use Rattle.dy_build.specs.Words.{build_of, usage_text};
 
 /// The fuel where the words name none.
 const DEFAULT_FUEL: u64 = 10_000_000;

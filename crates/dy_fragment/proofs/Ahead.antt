@@ -42,11 +42,11 @@ tested : (b : Bool) (p : Place) (at to : ℕ) (c d : Context) → cond b (Wrong 
 tested true p at to c d e = absurd cc
 tested false p at to c d e = same_place at to c d e
 
-fitting : (b : Bool) (p : Place) (at to : ℕ) (c d : Context) → cond b (At at c) (Wrong p) ≡ At to d → at ≡ to
+pub fitting : (b : Bool) (p : Place) (at to : ℕ) (c d : Context) → cond b (At at c) (Wrong p) ≡ At to d → at ≡ to
 fitting true p at to c d e = same_place at to c d e
 fitting false p at to c d e = absurd cc
 
-word_closed : (words : Words) (o : Opening) (at to : ℕ) (d : Context) (t : Option Token) → closed_word words o at t ≡ At to d → at ≡ to
+pub word_closed : (words : Words) (o : Opening) (at to : ℕ) (d : Context) (t : Option Token) → closed_word words o at t ≡ At to d → at ≡ to
 word_closed words o at to d None e = same_place at to (after_word o) d e
 word_closed words o at to d (Some t) e = tested (is_foreign words t) t.place at to (after_word o) d e
 

@@ -8,3 +8,8 @@ pub mod Verdicts
 pub mod Refusing
 pub mod Telling
 pub mod Calls
+pub mod Places
+pub mod Fronts
+pub mod Headers
+pub mod Leaves
+pub mod Examples

@@ -10,9 +10,11 @@ use Rattle.dy_tree.specs.Fragments.{SeenFragment, seen_fragments}
 use Rattle.dy_fragment.specs.Groups.{Grouped, depth}
 use Rattle.dy_fragment.specs.Faults.{Refused}
 
--- what a call gave are the trees of the tokens, at most 200 groups deep, or their first fault; want of memory says nothing
+-- what a call gave are the trees of the tokens, at most 200 groups deep, or their first fault; want
+-- of memory says nothing
 abbrev pub IsGrouping : Words → List Token → Result (List Fragment) Refusal → Type 0
-IsGrouping words tokens (Ok fragments) = Grouped words tokens (seen_fragments fragments) × (depth (seen_fragments fragments) ≤ 200)
+IsGrouping words tokens (Ok fragments) = Grouped words tokens (seen_fragments fragments)
+    × (depth (seen_fragments fragments) ≤ 200)
 IsGrouping words tokens (Err (refusals.Fault fault)) = Refused 200 words tokens fault
 IsGrouping words tokens (Err refusals.Memory) = Unit {0}
 

@@ -1,5 +1,7 @@
--- What closes a group (DRM 2, "Statements" and "Definitions"; what may follow `end`, and which words may not, is own).
-use Rattle.std.specs.Prelude.{ℕ, ◌+◌, ◌≤◌, Bool, ◌&&◌, ◌||◌, if◌then◌else◌, List, Option, Some, None, slice_get, not}
+-- What closes a group (DRM 2, "Statements" and "Definitions"; what may follow `end`, and which
+-- words may not, is own).
+use Rattle.std.specs.Prelude.{ℕ, ◌+◌, ◌≤◌, Bool, ◌&&◌, ◌||◌, if◌then◌else◌, List, Option, Some}
+use Rattle.std.specs.Prelude.{None, slice_get, not}
 use Rattle.dy_tree.specs.declared.token.Token.{Token}
 use Rattle.dy_tree.specs.declared.macros.MacroKind.TheVariants as kinds
 use Rattle.dy_tree.specs.declared.words.Words.{Words}
@@ -62,9 +64,11 @@ after_word openings.Definition = record { mode = modes.Words; local = locals.Off
 
 abbrev pub closed_word : Words → Opening → ℕ → Option Token → Closed
 closed_word words opening at None = At at (after_word opening)
-closed_word words opening at (Some t) = if is_foreign words t then Wrong t.place else At at (after_word opening)
+closed_word words opening at (Some t) =
+    if is_foreign words t then Wrong t.place else At at (after_word opening)
 
--- outside of the braces of a macro definition what it was before them groups again, also where the definition began within them
+-- outside of the braces of a macro definition what it was before them groups again, also where the
+-- definition began within them
 abbrev pub restored : Mode → Mode → Mode
 restored outside modes.Rules = in_macro outside
 restored outside modes.BracedHeader = outside
@@ -75,15 +79,19 @@ restored outside modes.Macro = modes.Macro
 abbrev pub after_bracket : Mode → Mode → Context
 after_bracket outside inside = record { mode = restored outside inside; local = locals.Off }
 
--- A closer, and where grouping goes on after it, or what is wrong. A bracket closes one of its shape, and `end` closes a word; after `end` the opener's word
--- and then the defined name may follow.
+-- A closer, and where grouping goes on after it, or what is wrong. A bracket closes one of its
+-- shape, and `end` closes a word; after `end` the opener's word and then the defined name may
+-- follow.
 abbrev pub close : Words → List Token → Closing → Closer → Token → ℕ → Context → Closed
 close words tokens (closings.Bracket opener outside) (closers.Bracket bracket) t after context =
-    if same_shape opener bracket then At after (after_bracket outside context.mode) else Wrong t.place
+    if same_shape opener bracket then At after (after_bracket outside context.mode)
+    else Wrong t.place
 close words tokens (closings.Bracket opener outside) closers.End t after context = Wrong t.place
-close words tokens (closings.Word word opening) (closers.Bracket bracket) t after context = Wrong t.place
+close words tokens (closings.Word word opening) (closers.Bracket bracket) t after context =
+    Wrong t.place
 close words tokens (closings.Word word opening) closers.End t after context =
-    closed_word words opening (past_end tokens word opening after) (slice_get tokens (past_end tokens word opening after))
+    closed_word words opening (past_end tokens word opening after)
+    (slice_get tokens (past_end tokens word opening after))
 
 -- grouping goes on between two places
 abbrev pub IsWithin : ℕ → ℕ → Closed → Type 0

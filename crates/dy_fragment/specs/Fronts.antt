@@ -49,16 +49,20 @@ abbrev pub after_comma : Mode → Local → Front
 after_comma mode local = Leaf (record { mode = mode; local = local_after_comma local })
 
 abbrev pub front_of_sign : Sign → Context → Front
-front_of_sign (signs.Opens bracket) context = Opens (closings.Bracket bracket context.mode) (record { mode = inside bracket context.mode; local = Off })
+front_of_sign (signs.Opens bracket) context =
+    Opens (closings.Bracket bracket context.mode)
+    (record { mode = inside bracket context.mode; local = Off })
 front_of_sign (signs.Closes bracket) context = Closes (closers.Bracket bracket)
 front_of_sign signs.Comma context = after_comma context.mode context.local
 front_of_sign signs.Other context = leaf context.mode
 
--- a definition with an `end` is a group, and one without is none; up to the definition word no word groups
+-- a definition with an `end` is a group, and one without is none; up to the definition word no word
+-- groups
 abbrev pub front_of_define : Defined → Front
 front_of_define Absent = Wrong
 front_of_define Bare = leaf modes.Header
-front_of_define (Ended word) = Opens (closings.Word word openings.Definition) (record { mode = modes.Header; local = Off })
+front_of_define (Ended word) =
+    Opens (closings.Word word openings.Definition) (record { mode = modes.Header; local = Off })
 
 abbrev pub is_wanted : Local → Bool
 is_wanted Off = false
@@ -66,11 +70,14 @@ is_wanted Wanted = true
 is_wanted LocalEnded = false
 
 abbrev pub opening_of : Token → Local → Opening
-opening_of t local = if is_wanted local && is_spelled (codes "method") t then openings.LocalMethod else openings.Statement
+opening_of t local = if is_wanted local && is_spelled (codes "method") t then openings.LocalMethod
+    else openings.Statement
 
 abbrev pub front_of_word : Words → Token → ℕ → Local → Front
 front_of_word words t at local =
-    if is_word kinds.Statement words t then Opens (closings.Word at (opening_of t local)) (record { mode = modes.Words; local = Off })
+    if is_word kinds.Statement words t
+    then Opens (closings.Word at (opening_of t local))
+    (record { mode = modes.Words; local = Off })
     else if is_spelled (codes "local") t then Leaf (record { mode = modes.Words; local = Wanted })
     else leaf modes.Words
 
@@ -90,11 +97,13 @@ in_macro modes.Macro = modes.Macro
 in_macro modes.Rules = modes.Rules
 
 abbrev pub front_of_definition : Token → Mode → Front
-front_of_definition t mode = if is_spelled (codes "macro") t then leaf (in_macro mode) else leaf modes.Words
+front_of_definition t mode =
+    if is_spelled (codes "macro") t then leaf (in_macro mode) else leaf modes.Words
 
 -- from the definition word on words group again, but in the definition of a macro
 abbrev pub front_in_header : Words → Token → Mode → Front
-front_in_header words t mode = if is_word kinds.Definition words t then front_of_definition t mode else leaf mode
+front_in_header words t mode =
+    if is_word kinds.Definition words t then front_of_definition t mode else leaf mode
 
 abbrev pub front_in_macro : Token → Front
 front_in_macro t = if is_end t then Closes closers.End else leaf modes.Macro

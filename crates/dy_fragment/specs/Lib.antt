@@ -6,3 +6,4 @@ pub mod Steps
 pub mod Groups
 pub mod Faults
 pub mod Answers
+pub mod Leaves

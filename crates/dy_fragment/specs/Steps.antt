@@ -1,5 +1,6 @@
 -- How a stack of open groups changes with each token, and what is left of it at the end.
-use Rattle.std.specs.Prelude.{◌≡◌, ℕ, zero, suc, ◌+◌, nat_lt, if◌then◌else◌, List, [], ◌∷◌, ◌++◌, length, map, reverse, Result, Ok, Err, Option, Some, None, slice_get}
+use Rattle.std.specs.Prelude.{◌≡◌, ℕ, zero, suc, ◌+◌, nat_lt, if◌then◌else◌, List, [], ◌∷◌, ◌++◌}
+use Rattle.std.specs.Prelude.{length, map, reverse, Result, Ok, Err, Option, Some, None, slice_get}
 use Rattle.dy_base.specs.declared.kind.Kind.{Kind}
 use Rattle.dy_base.specs.declared.kind.Kind.TheVariants.{Unbalanced, TooDeep}
 use Rattle.dy_base.specs.declared.fault.Place.{Place}
@@ -29,7 +30,8 @@ pub record SeenOpen : Type 0 where
   pub closing : Closing
   pub before : List SeenFragment
 
--- what was read so far: the open groups, the innermost first, what is in that one, and the first opener that is too deep
+-- what was read so far: the open groups, the innermost first, what is in that one, and the first
+-- opener that is too deep
 pub record SeenState : Type 0 where
   pub at : ℕ
   pub context : Context
@@ -38,22 +40,37 @@ pub record SeenState : Type 0 where
   pub deep : Option Place
 
 abbrev pub seen_open : Open → SeenOpen
-seen_open o = record { opener = o.opener; closing = o.closing; before = seen_fragments o.before.items }
+seen_open o = record {
+  opener = o.opener;
+  closing = o.closing;
+  before =
+      seen_fragments o.before.items;
+}
 
 abbrev pub seen_opens : List Open → List SeenOpen
 seen_opens os = reverse (map seen_open os)
 
 abbrev pub seen_state : State → SeenState
-seen_state s = record { at = s.at; context = s.context; open_groups = seen_opens s.open_groups.items; row = seen_fragments s.row.items; deep = s.deep }
+seen_state s = record {
+  at = s.at;
+  context = s.context;
+  open_groups =
+      seen_opens s.open_groups.items;
+  row = seen_fragments s.row.items;
+  deep = s.deep;
+}
 
 -- a fault at a place, whose subject is written later
 abbrev pub fault_at : Kind → Place → Fault
-fault_at kind place = record { kind = kind; library = []; place = Some place; shown = []; numbers = [] }
+fault_at kind place = record
+    { kind = kind; library = []; place = Some place; shown = []; numbers = [] }
 
--- of an opener that is too deep and what is wrong, the one that stands earlier; what is wrong, if they stand at one place
+-- of an opener that is too deep and what is wrong, the one that stands earlier; what is wrong, if
+-- they stand at one place
 abbrev pub earlier : Option Place → Place → Fault
 earlier None place = fault_at Unbalanced place
-earlier (Some deep) place = if nat_lt deep.offset place.offset then fault_at TooDeep deep else fault_at Unbalanced place
+earlier (Some deep) place =
+    if nat_lt deep.offset place.offset then fault_at TooDeep deep else fault_at Unbalanced place
 
 -- after an opener that is too deep no tree is made
 abbrev pub with_tree : Option Place → List SeenFragment → SeenFragment → List SeenFragment
@@ -68,7 +85,15 @@ abbrev pub Step : Type 0
 Step = Result SeenState Fault
 
 abbrev pub leaf_step : SeenState → Token → Context → Step
-leaf_step s t context = Ok (record { at = s.at + 1; context = context; open_groups = s.open_groups; row = with_tree s.deep s.row (one t); deep = s.deep })
+leaf_step s t context = Ok
+    (record {
+      at = s.at + 1;
+      context = context;
+      open_groups = s.open_groups;
+      row =
+          with_tree s.deep s.row (one t);
+      deep = s.deep;
+    })
 
 abbrev pub open_step : ℕ → SeenState → Token → Closing → Context → Step
 open_step limit s t closing context = Ok (record {
@@ -79,9 +104,17 @@ open_step limit s t closing context = Ok (record {
   deep = deeper limit s.deep (length s.open_groups) t.place;
 })
 
-abbrev pub closed_step : Option Place → List SeenFragment → Token → SeenOpen → List SeenOpen → Closed → Step
+abbrev pub closed_step : Option Place → List SeenFragment → Token → SeenOpen → List SeenOpen
+    → Closed → Step
 closed_step deep row t o os (closed.At at context) =
-    Ok (record { at = at; context = context; open_groups = os; row = with_tree deep o.before (group o.opener (pack row) t); deep = deep })
+    Ok (record {
+      at = at;
+      context = context;
+      open_groups = os;
+      row =
+          with_tree deep o.before (group o.opener (pack row) t);
+      deep = deep;
+    })
 closed_step deep row t o os (closed.Wrong place) = Err (earlier deep place)
 
 -- grouping goes on at this place
@@ -91,7 +124,8 @@ IsAt at (closed.Wrong place) = ⊥
 
 abbrev pub close_step : Words → List Token → SeenState → Token → Closer → List SeenOpen → Step
 close_step words tokens s t closer [] = Err (earlier s.deep t.place)
-close_step words tokens s t closer (o ∷ os) = closed_step s.deep s.row t o os (close words tokens o.closing closer t (s.at + 1) s.context)
+close_step words tokens s t closer (o ∷ os) =
+    closed_step s.deep s.row t o os (close words tokens o.closing closer t (s.at + 1) s.context)
 
 abbrev pub step_by : ℕ → Words → List Token → SeenState → Token → Front → Step
 step_by limit words tokens s t (Leaf context) = leaf_step s t context
@@ -101,7 +135,8 @@ step_by limit words tokens s t Wrong = Err (earlier s.deep t.place)
 
 -- what a token does to what was read before it
 abbrev pub step : ℕ → Words → List Token → SeenState → Token → Step
-step limit words tokens s t = step_by limit words tokens s t (front_at words tokens t s.at s.context)
+step limit words tokens s t =
+    step_by limit words tokens s t (front_at words tokens t s.at s.context)
 
 abbrev pub Grouping : Type 0
 Grouping = Result (List SeenFragment) Fault
@@ -122,14 +157,16 @@ abbrev pub and_then : Step → (SeenState → Grouping) → Grouping
 and_then (Ok s) more = more s
 and_then (Err f) more = Err f
 
-abbrev pub or_finish : ℕ → Words → List Token → SeenState → Option Token → (SeenState → Grouping) → Grouping
+abbrev pub or_finish : ℕ → Words → List Token → SeenState → Option Token → (SeenState → Grouping)
+    → Grouping
 or_finish limit words tokens s None more = finish s
 or_finish limit words tokens s (Some t) more = and_then (step limit words tokens s t) more
 
 -- what n tokens or fewer that follow give
 abbrev pub run : ℕ → Words → List Token → ℕ → SeenState → Grouping
 run limit words tokens zero s = finish s
-run limit words tokens (suc n) s = or_finish limit words tokens s (slice_get tokens s.at) (λ next. run limit words tokens n next)
+run limit words tokens (suc n) s =
+    or_finish limit words tokens s (slice_get tokens s.at) (λ next. run limit words tokens n next)
 
 abbrev pub start : Context
 start = record { mode = modes.Words; local = locals.Off }

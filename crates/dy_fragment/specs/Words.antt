@@ -1,5 +1,7 @@
--- Which tokens are words (DRM 2, "Lexical syntax", and DRM 10; in which modules a word is known is own).
-use Rattle.std.specs.Prelude.{ℕ, ◌+◌, Bool, true, false, ◌&&◌, ◌||◌, ◌==◌, if◌then◌else◌, List, [], ◌∷◌, codes, Option, Some, None}
+-- Which tokens are words (DRM 2, "Lexical syntax", and DRM 10; in which modules a word is known is
+-- own).
+use Rattle.std.specs.Prelude.{ℕ, ◌+◌, Bool, true, false, ◌&&◌, ◌||◌, ◌==◌, if◌then◌else◌, List, []}
+use Rattle.std.specs.Prelude.{◌∷◌, codes, Option, Some, None}
 use Rattle.dy_tree.specs.declared.token.TokenKind.{TokenKind}
 use Rattle.dy_tree.specs.declared.token.TokenKind.TheVariants.{Escaped}
 use Rattle.dy_tree.specs.declared.token.Token.{Token}
@@ -57,13 +59,15 @@ is_word kind words t = is_name_kind t.kind && is_one_of kind t words.items
 
 -- these definitions end before the next semicolon or at the end of the file
 abbrev pub has_no_end : Token → Bool
-has_no_end t = is_spelled (codes "constant") t || is_spelled (codes "domain") t || is_spelled (codes "generic") t || is_spelled (codes "variable") t
+has_no_end t = is_spelled (codes "constant") t || is_spelled (codes "domain") t
+    || is_spelled (codes "generic") t || is_spelled (codes "variable") t
 
 abbrev pub defined_by : Bool → ℕ → Defined
 defined_by true at = Bare
 defined_by false at = Ended at
 
--- the definition word of a `define` is the first one after it and before a semicolon; these tokens begin at a place
+-- the definition word of a `define` is the first one after it and before a semicolon; these tokens
+-- begin at a place
 abbrev pub defined_from : Words → ℕ → List Token → Defined
 defined_from words at [] = Absent
 defined_from words at (t ∷ ts) =

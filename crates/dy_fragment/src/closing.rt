@@ -184,7 +184,8 @@ pub(crate) fn close(
     context: Context,
 ) -> Closed
     requires { after ≤ length tokens.now }
-    ensures value { result ≡ spec.close words.now tokens.now closing closer token.now after context }
+    ensures value { result ≡ spec.close words.now tokens.now closing closer token.now after
+        context }
     ensures within { spec.IsWithin after (length tokens.now) result }
 {
     match closing {

@@ -51,10 +51,10 @@ fn grouped(alloc: Global, tokens: &Items<Token>, words: &Words) -> Result<Items<
 /// The tokens, grouped by brackets and by the words that are known (DRM 2, "Special tokens"; 4, the
 /// statements; 9, "Definitions"). Each token is read once.
 ///
-/// A refusal has the earliest fault: `Unbalanced` at a closer that fits no opener, at an opener that is
-/// left open, at a `define` without a definition word and at a foreign word after an `end`, or
-/// `TooDeep` at the first opener with more than 199 groups around it. Or it says that memory did not
-/// suffice.
+/// A refusal has the earliest fault: `Unbalanced` at a closer that fits no opener, at an opener
+/// that is left open, at a `define` without a definition word and at a foreign word after an `end`,
+/// or `TooDeep` at the first opener with more than 199 groups around it. Or it says that memory did
+/// not suffice.
 pub fn group(
     alloc: Global,
     tokens: &Items<Token>,
@@ -63,9 +63,11 @@ pub fn group(
     // What is given are the trees of the tokens, and a fault is the first one.
     ensures grouping { IsGrouping words.now tokens.now result }
     // Trees of the tokens that are not too deep are given.
-    ensures trees { (trees : List SeenFragment) → Grouped words.now tokens.now trees → depth trees ≤ 200 → GivesTrees result trees }
+    ensures trees { (trees : List SeenFragment) → Grouped words.now tokens.now trees
+        → depth trees ≤ 200 → GivesTrees result trees }
     // What has a first fault is refused with it.
-    ensures fault { (fault : Fault) → Refused 200 words.now tokens.now fault → Refuses result fault }
+    ensures fault { (fault : Fault) → Refused 200 words.now tokens.now fault
+        → Refuses result fault }
 {
     grouped(alloc, tokens, words)
 }

@@ -1,7 +1,8 @@
 //! What a token does to the stack of open groups.
 
 ghost use Rattle.std.specs.Prelude.{◌≡◌, ◌+◌, ◌^◌, ◌<◌, ◌≤◌, [], ◌∷◌, length, Ok, Err, IfOk};
-ghost use Rattle.dy_tree.specs.Fragments.{SeenFragment, one, group, pack, seen_fragment, seen_fragments};
+ghost use Rattle.dy_tree.specs.Fragments.{SeenFragment, one, group, pack, seen_fragment};
+ghost use Rattle.dy_tree.specs.Fragments.{seen_fragments};
 ghost use Rattle.dy_fragment.specs.Steps as spec;
 ghost use Rattle.dy_fragment.specs.Steps.{Gives, fault_at, seen_open, seen_opens, seen_state};
 
@@ -71,7 +72,8 @@ fn with_leaf(
     row: Vec<Fragment>,
     token: &Token,
 ) -> Result<Vec<Fragment>, Refusal>
-    ensures { Gives (λ r. seen_fragments r.items) result (Ok (spec.with_tree deep (seen_fragments row.items) (one token.now))) }
+    ensures { Gives (λ r. seen_fragments r.items) result
+        (Ok (spec.with_tree deep (seen_fragments row.items) (one token.now))) }
 {
     let mut row = row;
     match deep {
@@ -91,7 +93,9 @@ fn with_group(
     inner: Vec<Fragment>,
     closer: &Token,
 ) -> Result<Vec<Fragment>, Refusal>
-    ensures { Gives (λ r. seen_fragments r.items) result (Ok (spec.with_tree deep (seen_fragments before.items) (group opener (pack (seen_fragments inner.items)) closer.now))) }
+    ensures { Gives (λ r. seen_fragments r.items) result
+        (Ok (spec.with_tree deep (seen_fragments before.items)
+        (group opener (pack (seen_fragments inner.items)) closer.now))) }
 {
     let mut before = before;
     match deep {
@@ -137,7 +141,8 @@ fn leaf_step(state: State, token: &Token, context: Context) -> Result<State, Ref
 
 #[tactic(auto, using(crate::proofs::Stack::opens_pushed))]
 fn with_open(open_groups: Vec<Open>, innermost: Open) -> Result<Vec<Open>, Refusal>
-    ensures { Gives (λ os. seen_opens os.items) result (Ok (seen_open innermost ∷ seen_opens open_groups.items)) }
+    ensures { Gives (λ os. seen_opens os.items) result
+        (Ok (seen_open innermost ∷ seen_opens open_groups.items)) }
 {
     let mut open_groups = open_groups;
     open_groups.push(innermost)?;
@@ -153,7 +158,8 @@ fn open_step(
     context: Context,
 ) -> Result<State, Refusal>
     requires { state.at + 1 < 2 ^ 64 }
-    ensures value { Gives seen_state result (spec.open_step 200 (seen_state state) token.now closing context) }
+    ensures value { Gives seen_state result
+        (spec.open_step 200 (seen_state state) token.now closing context) }
     ensures ahead { IfOk result (λ next. next.at ≡ state.at + 1) }
 {
     let State {
@@ -189,7 +195,9 @@ fn closed_step(
     open_groups: Vec<Open>,
     closed: Closed,
 ) -> Result<State, Refusal>
-    ensures value { Gives seen_state result (spec.closed_step deep (seen_fragments row.items) token.now (seen_open innermost) (seen_opens open_groups.items) closed) }
+    ensures value { Gives seen_state result
+        (spec.closed_step deep (seen_fragments row.items) token.now (seen_open innermost)
+        (seen_opens open_groups.items) closed) }
     ensures place { IfOk result (λ next. spec.IsAt next.at closed) }
 {
     match closed {
@@ -222,7 +230,9 @@ fn close_step(
     closer: Closer,
 ) -> Result<State, Refusal>
     requires { state.at < length tokens.now }
-    ensures value { Gives seen_state result (spec.close_step words.now tokens.now (seen_state state) token.now closer (seen_opens state.open_groups.items)) }
+    ensures value { Gives seen_state result
+        (spec.close_step words.now tokens.now (seen_state state) token.now closer
+        (seen_opens state.open_groups.items)) }
     ensures ahead { IfOk result (λ next. (state.at < next.at) × (next.at ≤ length tokens.now)) }
 {
     let State {
@@ -259,7 +269,8 @@ pub(crate) fn step(
     token: &Token,
 ) -> Result<State, Refusal>
     requires { state.at < length tokens.now }
-    ensures value { Gives seen_state result (spec.step 200 words.now tokens.now (seen_state state) token.now) }
+    ensures value { Gives seen_state result
+        (spec.step 200 words.now tokens.now (seen_state state) token.now) }
     ensures ahead { IfOk result (λ next. (state.at < next.at) × (next.at ≤ length tokens.now)) }
 {
     match front_at(words, tokens, token, state.at, state.context) {

@@ -1,5 +1,5 @@
 use Rattle.std.proofs.Common.{inr}
-use Rattle.dy_build.specs.Outcome.{refused}
+use Rattle.dy_sources.specs.Verdicts.{refused}
 use Rattle.dy_build.proofs.Closings.{refused_finishes}
 use Rattle.dy_build.proofs.command.build.Goals as goal
 

@@ -1,7 +1,7 @@
 use Rattle.std.proofs.Common.{sym, ap, ◌∙◌, subst}
-use Rattle.dy_build.specs.declared.run.execute.RunEnd.{RunEnd}
+use Rattle.dy_engine.specs.declared.execute.RunEnd.{RunEnd}
 use Rattle.dy_build.specs.Lines.{unhandled_line}
-use Rattle.dy_build.specs.Endings.{EndsAs}
+use Rattle.dy_engine.specs.Endings.{EndsAs}
 use Rattle.dy_build.specs.Command.{Closes}
 use Rattle.dy_build.proofs.Closings.{signalled_closes}
 use Rattle.dy_build.proofs.command.finish.Goals as goal

@@ -1,9 +1,9 @@
 use Rattle.std.proofs.Common.{◌≡◌, sym, ap, ◌∙◌, subst}
 use Rattle.dy_runnable.specs.Core.{seen_program}
-use Rattle.dy_build.specs.Meaning.{program_meaning}
+use Rattle.dy_engine.specs.Meaning.{program_meaning}
 use Rattle.dy_build.specs.Outcome.{Report, run_report}
-use Rattle.dy_build.specs.Machine.{run_program}
-use Rattle.dy_build.specs.View.{seen_code}
+use Rattle.dy_engine.specs.Machine.{run_program}
+use Rattle.dy_engine.specs.View.{seen_code}
 use Rattle.dy_build.specs.Command.{final_report, Finishes, outputs}
 use Rattle.dy_build.proofs.Closings.{report_of, closes_finishes}
 use Rattle.dy_build.proofs.command.run_program.Goals as goal

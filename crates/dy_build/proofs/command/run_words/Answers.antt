@@ -1,7 +1,6 @@
 use Rattle.std.proofs.Common.{subst}
-use Rattle.dy_build.specs.Command.{TellsFaultOf}
 use Rattle.dy_build.proofs.Closings.{build_done, build_front, usage_done, usage_front, told_of}
-use Rattle.dy_build.proofs.Points.{point_at-front}
+use Rattle.dy_sources.proofs.Points.{point_at-front}
 use Rattle.dy_build.proofs.command.run_words.Goals as goal
 
 pub returns-in-Some-clause-outcome : goal.returns-in-Some-clause-outcome

@@ -1,0 +1,13 @@
+pub mod Rows
+pub mod Falls
+pub mod Places
+pub mod Tables
+pub mod Runs
+pub mod Ends
+pub mod Turns
+pub mod Evaluates
+pub mod Emits
+pub mod FirstPlaces
+pub mod Settles
+pub mod Pieces
+pub mod Examples

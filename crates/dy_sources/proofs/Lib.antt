@@ -1,0 +1,6 @@
+pub mod Points
+pub mod Examples
+pub mod Folders
+pub mod FileNames
+pub mod Sources
+pub mod Uniqueness

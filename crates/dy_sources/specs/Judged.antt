@@ -1,0 +1,91 @@
+-- What reading the sources answers.
+use Rattle.std.specs.Prelude.{◌≡◌, ◌≢◌, ◌≤◌, ◌⊎◌, ℕ, List, length, Option, Some, Result, Ok, Err}
+use Rattle.std.specs.Prelude.{Contains, IsTrue}
+use Rattle.dy_base.specs.declared.kind.Kind.TheVariants.{NoFile}
+use Rattle.dy_io.specs.Causes.{Rose}
+use Rattle.dy_runnable.specs.declared.program.Program.{Program}
+use Rattle.dy_runnable.specs.Core.{seen_program}
+use Rattle.dy_sources.specs.declared.source.Source.{Source as Read}
+use Rattle.dy_sources.specs.declared.source.Source.TheVariants as read
+use Rattle.dy_sources.specs.declared.source.Halt.{Halt}
+use Rattle.dy_sources.specs.declared.source.Halt.TheVariants as halts
+use Rattle.dy_io.specs.Files.{FileMap}
+use Rattle.dy_lexer.specs.declared.source.Lid.{Lid}
+use Rattle.dy_lexer.specs.Headers.{is_printable}
+use Rattle.dy_lexer.specs.Sources.{IsLid}
+use Rattle.dy_sources.specs.Layout.{file_limit, source_name}
+use Rattle.dy_sources.specs.Verdicts.{Source, absent, too_long, text, source_at, Verdict, refused}
+use Rattle.dy_sources.specs.Verdicts.{accepted}
+
+abbrev pub seen_source : Read → Source
+seen_source read.Absent = absent
+seen_source read.TooLong = too_long
+seen_source (read.Text bytes) = text bytes.items
+
+-- no longer than a file may be
+abbrev pub IsWithin : Read → Type 0
+IsWithin read.Absent = Unit {0}
+IsWithin read.TooLong = Unit {0}
+IsWithin (read.Text bytes) = length bytes.items ≤ file_limit
+
+-- The answer is judged so, unless a file failed or memory ran out.
+abbrev pub Judged : (Verdict → Type 0) → Result Program Halt → Type 0
+Judged judges (Ok program) = judges (accepted (seen_program program))
+Judged judges (Err (halts.Refused why)) = judges (refused why)
+Judged judges (Err (halts.FileFault name)) = Unit {0}
+Judged judges (Err halts.Memory) = Unit {0}
+
+-- A file is reported absent only where the misses rose.
+abbrev pub Misses : ℕ → ℕ → Halt → Type 0
+Misses before now (halts.Refused why) = why.kind ≡ NoFile → Rose before now
+Misses before now (halts.FileFault name) = Unit {0}
+Misses before now halts.Memory = Unit {0}
+
+-- A file is reported to fail only where the faults rose.
+abbrev pub Fails : ℕ → ℕ → Halt → Type 0
+Fails before now (halts.Refused why) = Unit {0}
+Fails before now (halts.FileFault name) = Rose before now
+Fails before now halts.Memory = Unit {0}
+
+-- No file is reported absent or failed.
+abbrev pub IsPlain : Halt → Type 0
+IsPlain (halts.Refused why) = why.kind ≢ NoFile
+IsPlain (halts.FileFault name) = ⊥
+IsPlain halts.Memory = Unit {0}
+
+-- A file failed, where the faults rose, or memory ran out.
+abbrev pub Interrupts : ℕ → ℕ → Halt → Type 0
+Interrupts before now (halts.Refused why) = ⊥
+Interrupts before now (halts.FileFault name) = Rose before now
+Interrupts before now halts.Memory = Unit {0}
+
+-- The name of a file that failed is such a one.
+abbrev pub TellsName : (List ℕ → Type 0) → Halt → Type 0
+TellsName is (halts.Refused why) = Unit {0}
+TellsName is (halts.FileFault name) = is name
+TellsName is halts.Memory = Unit {0}
+
+-- one of two source files beside a LID file
+abbrev pub IsEither : List ℕ → List ℕ → List ℕ → List ℕ → Type 0
+IsEither lid first second name = (name ≡ source_name lid first) ⊎ (name ≡ source_name lid second)
+
+-- a source file of these, each of which lies beside the LID file
+abbrev pub IsSourceOf : List ℕ → List (List ℕ) → List ℕ → Type 0
+IsSourceOf lid files name = (file : List ℕ) × Contains files file × IsTrue (is_printable file)
+    × (name ≡ source_name lid file)
+
+-- the LID file holds a text that gives this source file
+abbrev pub Gives : FileMap → List ℕ → List ℕ → Type 0
+Gives held lid file = (bytes : List ℕ) × (found : Lid) × (source_at held lid ≡ text bytes)
+    × IsLid bytes found × Contains found.files file
+
+-- a printable name behind the folder of the LID file; where the files tell what they hold, the LID
+-- file gives it
+abbrev pub IsBeside : Option FileMap → List ℕ → List ℕ → Type 0
+IsBeside contents lid name =
+    (file : List ℕ) × IsTrue (is_printable file) × (name ≡ source_name lid file)
+    × ((held : FileMap) → contents ≡ Some held → Gives held lid file)
+
+-- a file that is read for this LID file: that file itself, or one beside it
+abbrev pub NamesFile : Option FileMap → List ℕ → List ℕ → Type 0
+NamesFile contents lid name = (name ≡ lid) ⊎ IsBeside contents lid name

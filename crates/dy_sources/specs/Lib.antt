@@ -1,0 +1,5 @@
+pub mod Layout
+pub mod Points
+pub mod Refusals
+pub mod Verdicts
+pub mod Judged

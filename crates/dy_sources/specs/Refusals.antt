@@ -1,0 +1,58 @@
+-- The line of a refusal (own).
+use Rattle.std.specs.Prelude.{ℕ, List, [], ◌∷◌, ◌++◌, Option, Some, None, codes, decimal}
+use Rattle.std.specs.Prelude.{if◌then◌else◌}
+use Rattle.dy_base.specs.Kinds.{code_of, name_of}
+use Rattle.dy_base.specs.declared.kind.Kind.{Kind}
+use Rattle.dy_base.specs.declared.kind.Kind.TheVariants.{NoFile, Syntax}
+use Rattle.dy_sources.specs.Layout.{is_same}
+use Rattle.dy_sources.specs.declared.point.Point.{Point}
+use Rattle.dy_sources.specs.declared.refused.Position.{Position}
+use Rattle.dy_sources.specs.declared.refused.Refused.{Refused}
+
+abbrev pub position_text : Option Position → List ℕ
+position_text None = []
+position_text (Some at) =
+    codes " at " ++ at.file ++ codes ":" ++ decimal at.line ++ codes ":" ++ decimal at.column
+
+abbrev pub spaced : List (List ℕ) → List ℕ
+spaced [] = []
+spaced (item ∷ items) = codes " " ++ item ++ spaced items
+
+abbrev pub shown_text : List (List ℕ) → List ℕ
+shown_text [] = []
+shown_text (item ∷ items) = codes ":" ++ spaced (item ∷ items)
+
+-- the number and the name of a kind
+abbrev pub kind_text : Kind → List ℕ
+kind_text kind = decimal (code_of kind) ++ codes " " ++ name_of kind
+
+-- `refused SUBJECT: NUMBER NAME at FILE:LINE:COLUMN: ITEMS`
+abbrev pub refusal_line : Refused → List ℕ
+refusal_line refused =
+    codes "refused " ++ refused.subject ++ codes ": " ++ kind_text refused.kind
+    ++ position_text refused.position ++ shown_text refused.shown ++ codes "\n"
+
+-- A file is absent. It is shown, but where it is the subject itself.
+abbrev pub no_file : List ℕ → List ℕ → Refused
+no_file subject file =
+    record {
+      kind = NoFile;
+      subject = subject;
+      position = None;
+      shown =
+          if is_same file subject then [] else file ∷ [];
+    }
+
+abbrev pub position_at : List ℕ → Point → Position
+position_at file point = record { file = file; line = point.line; column = point.column }
+
+-- At this place a file is not in the grammar.
+abbrev pub syntax : List ℕ → List ℕ → Point → Refused
+syntax subject file point =
+    record {
+      kind = Syntax;
+      subject = subject;
+      position = Some (position_at file point);
+      shown =
+          [];
+    }
