@@ -6,7 +6,7 @@ const OVERFLOW: &str = "unhandled <simple-error>: integer overflow\n";
 
 /// What the second file of the library `hello` holds behind its header, and the status, the output and the error output
 /// of the build.
-pub(crate) static PRINTED: [(&str, u8, &str, &str); 26] = [
+pub(crate) static PRINTED: [(&str, u8, &str, &str); 27] = [
     ("format-out(\"%d\\n\", 6 * 7);\n", 0, "42\n", ""),
     ("", 0, "", ""),
     ("\n  \r\n", 0, "", ""),
@@ -63,6 +63,13 @@ pub(crate) static PRINTED: [(&str, u8, &str, &str); 26] = [
         "define method F (n) N + -2 end method f; Format-Out(\"%d\\n\", f(1));",
         0,
         "-1\n",
+        "",
+    ),
+    // The adjectives on inlining mean nothing.
+    (
+        "define inline not-inline may-inline default-inline inline-only method f (n) n end; format-out(\"%d\\n\", f(3));",
+        0,
+        "3\n",
         "",
     ),
     (

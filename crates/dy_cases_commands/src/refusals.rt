@@ -4,7 +4,7 @@ use crate::tests::LIBRARY;
 
 /// What the second file of the library `hello` holds behind its header, which is two lines, and the refusal: a case
 /// for each kind that tells a fault of a text, and for what is of no construct that runs yet.
-pub(crate) static KINDS: [(&str, &str); 24] = [
+pub(crate) static KINDS: [(&str, &str); 31] = [
     (
         "format-out(\"%d\\n\", 1 ` 2);",
         "refused hello: 1 BadByte at hello.dylan:3:22\n",
@@ -102,10 +102,38 @@ pub(crate) static KINDS: [(&str, &str); 24] = [
         "format-out(\"%d%%\\n\");",
         "refused hello: 17 Syntax at hello.dylan:3:1\n",
     ),
+    (
+        "define method f (n == 5) n end; format-out(\"%d\\n\", f(3));",
+        "refused hello: 17 Syntax at hello.dylan:3:1\n",
+    ),
+    (
+        "define method f (n == m) n end; format-out(\"%d\\n\", f(3));",
+        "refused hello: 17 Syntax at hello.dylan:3:1\n",
+    ),
+    (
+        "define method f (n :: <integer>) n end;",
+        "refused hello: 17 Syntax at hello.dylan:3:1\n",
+    ),
+    (
+        "define method f (n, #rest r) n end;",
+        "refused hello: 17 Syntax at hello.dylan:3:1\n",
+    ),
+    (
+        "define open generic f (n);",
+        "refused hello: 17 Syntax at hello.dylan:3:1\n",
+    ),
+    (
+        "define method negative (n) 0 - n end;\ndefine method f (n) - n end;",
+        "refused hello: 17 Syntax at hello.dylan:4:1\n",
+    ),
+    (
+        "format-out(\"%d\\n\", \\+(1, 2));",
+        "refused hello: 17 Syntax at hello.dylan:3:1\n",
+    ),
 ];
 
 /// What the second file holds behind its header, and the refusal, with its place.
-pub(crate) static PLACES: [(&str, &str); 57] = [
+pub(crate) static PLACES: [(&str, &str); 63] = [
     // Names without a binding, of which the first is told.
     (
         "format-out(\"%d\\n\", k);",
@@ -290,6 +318,31 @@ pub(crate) static PLACES: [(&str, &str); 57] = [
     ),
     (
         "format-out(\"%d\\n\", g);\nformat-out(\"%d\\n\", );\ndefine method g (n) n end;\n",
+        "refused hello: 17 Syntax at hello.dylan:3:1\n",
+    ),
+    // Words and names of the libraries as names of methods, and names of the libraries otherwise.
+    (
+        "define method class (n) n end;",
+        "refused hello: 17 Syntax at hello.dylan:3:1\n",
+    ),
+    (
+        "define method \\if (n) n end;",
+        "refused hello: 17 Syntax at hello.dylan:3:1\n",
+    ),
+    (
+        "define method \\+ (n) n end;",
+        "refused hello: 17 Syntax at hello.dylan:3:1\n",
+    ),
+    (
+        "define method f (\\+) 1 end;",
+        "refused hello: 17 Syntax at hello.dylan:3:1\n",
+    ),
+    (
+        "format-out(\"%d\\n\", \\+);",
+        "refused hello: 17 Syntax at hello.dylan:3:1\n",
+    ),
+    (
+        "define method f (n) format-out(n) end;",
         "refused hello: 17 Syntax at hello.dylan:3:1\n",
     ),
     // Comments, bytes that begin no token, and brackets.

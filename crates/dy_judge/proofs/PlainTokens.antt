@@ -11,14 +11,15 @@ use Rattle.dy_tree.specs.declared.token.TokenKind.{TokenKind}
 use Rattle.dy_tree.specs.declared.token.TokenKind.TheVariants.{Name, Escaped, Symbol, Int, Char, Str, Mark, PatternVar, CallSite, Operator, Punctuation}
 use Rattle.dy_tree.specs.declared.token.Token.{Token}
 use Rattle.dy_tree.specs.declared.words.Words.{Words}
-use Rattle.dy_lexer.specs.declared.class.Class.{Class}
-use Rattle.dy_lexer.specs.declared.class.Class.TheVariants.{Letter, Digit, Graphic, Joint, Sign, Slash, Hash, Question, Backslash, SingleQuote, DoubleQuote, Space, Other}
-use Rattle.dy_lexer.specs.declared.class.Piece.{Piece}
-use Rattle.dy_lexer.specs.declared.class.Piece.TheVariants as pieces
-use Rattle.dy_lexer.specs.Bytes.{class_of}
-use Rattle.dy_lexer.specs.Scan.{decoded}
-use Rattle.dy_lexer.specs.Tokens.{OneToken, fault_at, fitting, runs_on, value_of, inner, plain, token_of, token_at, some_token, integer, integer_at, one_character, characters, quoted_symbol, symbol_at}
-use Rattle.dy_lexer.specs.Forms.{IsFault, class_fault, stuck_fault}
+use Rattle.dy_pieces.specs.declared.class.Class.{Class}
+use Rattle.dy_pieces.specs.declared.class.Class.TheVariants.{Letter, Digit, Graphic, Joint, Sign, Slash, Hash, Question, Backslash, SingleQuote, DoubleQuote, Space, Other}
+use Rattle.dy_pieces.specs.declared.class.Piece.{Piece}
+use Rattle.dy_pieces.specs.declared.class.Piece.TheVariants as pieces
+use Rattle.dy_pieces.specs.Bytes.{class_of}
+use Rattle.dy_pieces.specs.Numbers.{fitting, value_of}
+use Rattle.dy_pieces.specs.Scan.{decoded}
+use Rattle.dy_lexer.specs.Tokens.{OneToken, fault_at, runs_on, inner, plain, token_of, token_at, some_token, integer, integer_at, one_character, characters, quoted_symbol, symbol_at}
+use Rattle.dy_pieces.specs.Forms.{IsFault, class_fault, stuck_fault}
 use Rattle.dy_lexer.specs.Cut.{place_of, Broken, here, value, later}
 use Rattle.dy_lexer.specs.declared.header.Head.{Head}
 use Rattle.dy_lexer.specs.Sources.{IsAfter, IsFirst, header_fault}

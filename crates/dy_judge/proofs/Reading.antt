@@ -1,6 +1,6 @@
 -- What a form is read as, by what the parser says.
 use Rattle.std.proofs.Common.{◌≡◌, List, refl, sym, ap, ◌∙◌}
-use Rattle.std.specs.Prelude.{Option, Result, Ok, Err, IfOk}
+use Rattle.std.specs.Prelude.{Result, Ok, Err, IfOk}
 use Rattle.std.specs.declared.alloc.AllocError.{AllocError}
 use Rattle.dy_base.specs.declared.kind.Kind.{Kind}
 use Rattle.dy_base.specs.declared.kind.Kind.TheVariants.{Syntax, TooDeep}
@@ -12,14 +12,14 @@ use Rattle.dy_tree.specs.Fragments.{SeenFragment}
 use Rattle.dy_rules.specs.SeenForms.{seen_form}
 use Rattle.dy_rules.specs.Parsing.{Parsed, accepted, too_deep, no_form, parsed}
 use Rattle.dy_read_forms.specs.Answers.{Accepts, RefusesFor, fault_of}
-use Rattle.dy_surface.specs.Forms.{draft_of}
 use Rattle.dy_subset.specs.declared.row.Reading.{Reading as HeldReading}
-use Rattle.dy_subset.specs.Forms.{Reading, faulty, TopTree, seen_reading}
-use Rattle.dy_judge.specs.Forms.{reading_of, taken_top, told_reading, reading_in, Tells}
+use Rattle.dy_subset.specs.Forms.{Reading, faulty, seen_reading}
+use Rattle.dy_judge.specs.Forms.{form_reading, told_reading, reading_in, Tells}
 
 -- of a form that the parser gives
-pub form_read : (fragments : List SeenFragment) (found : Form) (top : Option TopTree) (reading : Reading) → Accepts fragments (Ok found) → top ≡ taken_top fragments (draft_of (seen_form found)) → reading ≡ reading_of top → reading ≡ reading_in fragments
-form_read fragments found top reading accepts is same = same ∙ ap reading_of is ∙ ap (told_reading fragments) (sym (accepts.only found refl))
+pub form_read : (fragments : List SeenFragment) (found : Form) (result : Result HeldReading AllocError) → Accepts fragments (Ok found) → IfOk result (λ reading. seen_reading reading ≡ form_reading (seen_form found)) → IfOk result (λ reading. seen_reading reading ≡ reading_in fragments)
+form_read fragments found (Ok reading) accepts is = is ∙ ap told_reading (sym (accepts.only found refl))
+form_read fragments found (Err error) accepts is = tt
 
 fault_read : (fragments : List SeenFragment) (fault : Fault) (reading : Reading) → Accepts fragments (Err (refusals.Fault fault)) → RefusesFor no_form Syntax fragments (Err (refusals.Fault fault)) → RefusesFor too_deep TooDeep fragments (Err (refusals.Fault fault))
     → reading ≡ faulty fault.kind → reading ≡ reading_in fragments
@@ -29,8 +29,8 @@ fault_read fragments fault reading accepts syntax deep is = go (parsed fragments
     told kind same = is ∙ ap (λ (f : Fault). faulty f.kind) same
 
     go : (found : Parsed) → parsed fragments ≡ found → reading ≡ reading_in fragments
-    go no_form found = told Syntax (syntax.refused found) ∙ ap (told_reading fragments) (sym found)
-    go too_deep found = told TooDeep (deep.refused found) ∙ ap (told_reading fragments) (sym found)
+    go no_form found = told Syntax (syntax.refused found) ∙ ap told_reading (sym found)
+    go too_deep found = told TooDeep (deep.refused found) ∙ ap told_reading (sym found)
     go (accepted tree) found = absurd (accepts.given tree found)
 
 told_read : (fragments : List SeenFragment) (refusal : Refusal) (reading : Reading) → Accepts fragments (Err refusal) → RefusesFor no_form Syntax fragments (Err refusal) → RefusesFor too_deep TooDeep fragments (Err refusal) → Tells refusal reading

@@ -35,7 +35,7 @@ tokens_one library tokens a b (inl (f, first, is)) (inl (g, second, also)) =
     is ∙ ap refused (one_fault (group_of words tokens) f g (determined 200 words tokens f first) (determined 200 words tokens g second)) ∙ sym also
 tokens_one library tokens a b (inl (f, first, is)) (inr (trees, grouped, deep, also)) = absurd (apart (group_of words tokens) trees f (given_all 200 words tokens trees grouped deep) (determined 200 words tokens f first))
 tokens_one library tokens a b (inr (trees, grouped, deep, is)) (inl (f, first, also)) = absurd (apart (group_of words tokens) trees f (given_all 200 words tokens trees grouped deep) (determined 200 words tokens f first))
-tokens_one library tokens a b (inr (trees, grouped, deep, is)) (inr (others, grouping, low, also)) = is ∙ ap (forms_verdict library) (unique words tokens trees others grouped grouping) ∙ sym also
+tokens_one library tokens a b (inr (trees, grouped, deep, is)) (inr (others, grouping, low, also)) = is ∙ ap (forms_verdict library words) (unique words tokens trees others grouped grouping) ∙ sym also
 
 both_one : (is_first same : Bool) (library : List ℕ) (first second : Source) (a b : Verdict) → JudgesBoth is_first same library first second a → JudgesBoth is_first same library first second b → a ≡ b
 both_one false same library first second a b e f = e ∙ sym f

@@ -22,4 +22,5 @@ is_header fault = is_bad_header fault.kind
 -- the fault of the first file, or that of the header of the second
 abbrev pub first_fault : Fault → Lexed → Fault
 first_fault fault (Read source) = fault
-first_fault fault (Faulty second) = if is_header second && not (is_header fault) then second else fault
+first_fault fault (Faulty second) =
+    if is_header second && not (is_header fault) then second else fault

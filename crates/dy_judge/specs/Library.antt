@@ -1,5 +1,6 @@
 -- The file that defines the library and its module, as it has to be today (own).
-use Rattle.std.specs.Prelude.{ℕ, Bool, true, false, ◌&&◌, List, [], ◌∷◌, codes, Option, Some, None, if◌then◌else◌, option_and_then}
+use Rattle.std.specs.Prelude.{ℕ, Bool, true, false, ◌&&◌, List, [], ◌∷◌, codes, Option, Some, None}
+use Rattle.std.specs.Prelude.{if◌then◌else◌, option_and_then}
 use Rattle.std.specs.Str.{bytes_eq}
 use Rattle.dy_tree.specs.declared.token.Token.{Token}
 use Rattle.dy_tree.specs.Spelling.{is_word}
@@ -19,12 +20,14 @@ behind_semicolon (token ∷ rest) = if is_semicolon token then Some rest else No
 -- what follows `define`, this word and this name
 abbrev pub behind_define : List ℕ → List ℕ → List Token → Option (List Token)
 behind_define word name tokens =
-    option_and_then (λ rest. option_and_then (behind_word name) (behind_word word rest)) (behind_word (codes "define") tokens)
+    option_and_then (λ rest. option_and_then (behind_word name) (behind_word word rest))
+    (behind_word (codes "define") tokens)
 
 -- what follows `use NAME;`
 abbrev pub behind_use : List ℕ → List Token → Option (List Token)
 behind_use name tokens =
-    option_and_then (λ rest. option_and_then behind_semicolon (behind_word name rest)) (behind_word (codes "use") tokens)
+    option_and_then (λ rest. option_and_then behind_semicolon (behind_word name rest))
+    (behind_word (codes "use") tokens)
 
 -- what follows `end;`
 abbrev pub behind_end : List Token → Option (List Token)
@@ -32,15 +35,21 @@ behind_end tokens = option_and_then behind_semicolon (behind_word (codes "end") 
 
 -- what follows two clauses and the end of a definition
 abbrev pub behind_clauses : List ℕ → List ℕ → List Token → Option (List Token)
-behind_clauses first second tokens = option_and_then (λ rest. option_and_then behind_end (behind_use second rest)) (behind_use first tokens)
+behind_clauses first second tokens =
+    option_and_then (λ rest. option_and_then behind_end (behind_use second rest))
+    (behind_use first tokens)
 
 -- what follows `define library NAME use dylan; use io; end;`
 abbrev pub behind_library : List ℕ → List Token → Option (List Token)
-behind_library name tokens = option_and_then (behind_clauses (codes "dylan") (codes "io")) (behind_define (codes "library") name tokens)
+behind_library name tokens =
+    option_and_then (behind_clauses (codes "dylan") (codes "io"))
+    (behind_define (codes "library") name tokens)
 
 -- what follows `define module NAME use dylan; use format-out; end;`
 abbrev pub behind_module : List ℕ → List Token → Option (List Token)
-behind_module name tokens = option_and_then (behind_clauses (codes "dylan") (codes "format-out")) (behind_define (codes "module") name tokens)
+behind_module name tokens =
+    option_and_then (behind_clauses (codes "dylan") (codes "format-out"))
+    (behind_define (codes "module") name tokens)
 
 abbrev pub is_end : Option (List Token) → Bool
 is_end (Some []) = true
@@ -48,7 +57,9 @@ is_end _ = false
 
 -- both definitions, and nothing else
 abbrev pub are_definitions : List ℕ → List Token → Bool
-are_definitions name tokens = is_end (option_and_then (behind_module name) (behind_library name tokens))
+are_definitions name tokens =
+    is_end (option_and_then (behind_module name) (behind_library name tokens))
 
 abbrev pub is_library : List ℕ → Source → Bool
-is_library name source = bytes_eq source.«module» (codes "dylan-user") && are_definitions name source.tokens
+is_library name source = bytes_eq source.«module» (codes "dylan-user")
+    && are_definitions name source.tokens

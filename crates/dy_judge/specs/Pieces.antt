@@ -40,6 +40,8 @@ abbrev pub or_place : Option Place → Place → Place
 or_place (Some place) other = place
 or_place None other = other
 
--- Where a form begins: at its first token, or else at the semicolon behind it. A piece has one or the other.
+-- Where a form begins: at its first token, or else at the semicolon behind it. A piece has one or
+-- the other.
 abbrev pub place_of : Piece → Place
-place_of found = or_place (first_place found.fragments) (or_place found.end (record { file = 0; offset = 0 }))
+place_of found = or_place (first_place found.fragments)
+    (or_place found.end (record { file = 0; offset = 0 }))

@@ -1,5 +1,6 @@
 -- What two source files come to (own in the order of faults).
-use Rattle.std.specs.Prelude.{◌≡◌, ◌≢◌, ◌≤◌, ◌⊎◌, ℕ, Bool, true, false, List, [], ◌∷◌, map, Some, Result, Ok, Err}
+use Rattle.std.specs.Prelude.{◌≡◌, ◌≢◌, ◌≤◌, ◌⊎◌, ℕ, Bool, true, false, List, [], ◌∷◌, map, Some}
+use Rattle.std.specs.Prelude.{Result, Ok, Err}
 use Rattle.std.specs.Str.{bytes_eq}
 use Rattle.dy_base.specs.declared.kind.Kind.{Kind}
 use Rattle.dy_base.specs.declared.kind.Kind.TheVariants.{NoFile, Syntax, Unbound}
@@ -8,6 +9,7 @@ use Rattle.dy_base.specs.declared.fault.Fault.{Fault}
 use Rattle.dy_base.specs.declared.fault.Refusal.{Refusal}
 use Rattle.dy_base.specs.declared.fault.Refusal.TheVariants as refusals
 use Rattle.dy_tree.specs.declared.token.Token.{Token}
+use Rattle.dy_tree.specs.declared.words.Words.{Words}
 use Rattle.dy_tree.specs.Fragments.{SeenFragment}
 use Rattle.dy_lexer.specs.declared.source.Source.{Source}
 use Rattle.dy_fragment.specs.Groups.{Grouped, depth}
@@ -34,7 +36,8 @@ pub data Verdict : Type 0 where
 
 -- a fault whose subject is written later
 abbrev pub fault_with : Kind → Place → List (List ℕ) → Fault
-fault_with kind place shown = record { kind = kind; library = []; place = Some place; shown = shown; numbers = [] }
+fault_with kind place shown =
+    record { kind = kind; library = []; place = Some place; shown = shown; numbers = [] }
 
 abbrev pub syntax_at : Place → Fault
 syntax_at place = fault_with Syntax place []
@@ -42,21 +45,24 @@ syntax_at place = fault_with Syntax place []
 -- by what is told of the names
 abbrev pub found_verdict : List ℕ → List Row → Finding → Verdict
 found_verdict library rows found.Fine = accepted (program_of library rows)
-found_verdict library rows (found.Unbound token) = refused (fault_with Unbound token.place (token.text ∷ []))
+found_verdict library rows (found.Unbound token) =
+    refused (fault_with Unbound token.place (token.text ∷ []))
 found_verdict library rows (found.Unfit kind place) = refused (fault_with kind place [])
 
--- of the forms of a file: the first that is refused, else the first name without a binding, else the program
-abbrev pub row_verdict : List ℕ → List Row → Verdict
-row_verdict library rows = found_verdict library rows (told (findings rows))
+-- of the forms of a file: the first that is refused, else the first name without a binding, else
+-- the program
+abbrev pub row_verdict : List ℕ → Words → List Row → Verdict
+row_verdict library known rows = found_verdict library rows (told (findings known rows))
 
-abbrev pub forms_verdict : List ℕ → List SeenFragment → Verdict
-forms_verdict library trees = row_verdict library (map row_of (pieces_of trees))
+abbrev pub forms_verdict : List ℕ → Words → List SeenFragment → Verdict
+forms_verdict library known trees = row_verdict library known (map row_of (pieces_of trees))
 
 -- tokens are refused with the first fault of their groups, or their trees are judged
 abbrev pub JudgesTokens : List ℕ → List Token → Verdict → Type 0
 JudgesTokens library tokens verdict =
     ((fault : Fault) × Refused 200 words tokens fault × (verdict ≡ refused fault))
-    ⊎ ((trees : List SeenFragment) × Grouped words tokens trees × (depth trees ≤ 200) × (verdict ≡ forms_verdict library trees))
+    ⊎ ((trees : List SeenFragment) × Grouped words tokens trees × (depth trees ≤ 200)
+    × (verdict ≡ forms_verdict library words trees))
 
 -- where the first token of a file stands, or its begin where it has none
 abbrev pub first_place : ℕ → List Token → Place
@@ -65,12 +71,16 @@ first_place file (token ∷ tokens) = token.place
 
 -- by whether the first file defines the library, and whether the second is of its module
 abbrev pub JudgesBoth : Bool → Bool → List ℕ → Source → Source → Verdict → Type 0
-JudgesBoth false same library first second verdict = verdict ≡ refused (syntax_at (first_place 0 first.tokens))
-JudgesBoth true false library first second verdict = verdict ≡ refused (syntax_at (record { file = 1; offset = 0 }))
+JudgesBoth false same library first second verdict =
+    verdict ≡ refused (syntax_at (first_place 0 first.tokens))
+JudgesBoth true false library first second verdict =
+    verdict ≡ refused (syntax_at (record { file = 1; offset = 0 }))
 JudgesBoth true true library first second verdict = JudgesTokens library second.tokens verdict
 
 abbrev pub JudgesSources : List ℕ → Source → Source → Verdict → Type 0
-JudgesSources library first second verdict = JudgesBoth (is_library library first) (bytes_eq second.«module» library) library first second verdict
+JudgesSources library first second verdict =
+    JudgesBoth (is_library library first)
+    (bytes_eq second.«module» library) library first second verdict
 
 abbrev pub JudgesFiles : List ℕ → Lexed → Lexed → Verdict → Type 0
 JudgesFiles library (Faulty fault) other verdict = verdict ≡ refused (first_fault fault other)
@@ -79,7 +89,8 @@ JudgesFiles library (Read first) (Read second) verdict = JudgesSources library f
 
 -- what the two files of a library come to
 abbrev pub IsVerdict : List ℕ → List ℕ → List ℕ → Verdict → Type 0
-IsVerdict library first second verdict = (a : Lexed) × (b : Lexed) × Lexes 0 first a × Lexes 1 second b × JudgesFiles library a b verdict
+IsVerdict library first second verdict = (a : Lexed) × (b : Lexed) × Lexes 0 first a
+    × Lexes 1 second b × JudgesFiles library a b verdict
 
 -- what a call gave is judged so; want of memory says nothing
 abbrev pub Judged : (Verdict → Type 0) → Result Program Refusal → Type 0

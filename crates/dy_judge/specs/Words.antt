@@ -13,13 +13,15 @@ word kind name = record { «module» = 0; name = name; kind = kind; at = None }
 abbrev pub statements : List Word
 statements =
     map (word Statement)
-    (codes "begin" ∷ codes "block" ∷ codes "case" ∷ codes "for" ∷ codes "if" ∷ codes "method" ∷ codes "select" ∷ codes "unless" ∷ codes "until" ∷ codes "while" ∷ [])
+    (codes "begin" ∷ codes "block" ∷ codes "case" ∷ codes "for" ∷ codes "if" ∷ codes "method"
+    ∷ codes "select" ∷ codes "unless" ∷ codes "until" ∷ codes "while" ∷ [])
 
 -- the words that say what is defined
 abbrev pub definitions : List Word
 definitions =
     map (word Definition)
-    (codes "class" ∷ codes "constant" ∷ codes "domain" ∷ codes "function" ∷ codes "generic" ∷ codes "library" ∷ codes "macro" ∷ codes "method" ∷ codes "module" ∷ codes "variable" ∷ [])
+    (codes "class" ∷ codes "constant" ∷ codes "domain" ∷ codes "function" ∷ codes "generic"
+    ∷ codes "library" ∷ codes "macro" ∷ codes "method" ∷ codes "module" ∷ codes "variable" ∷ [])
 
 abbrev pub words : Words
 words = record { items = statements ++ definitions }

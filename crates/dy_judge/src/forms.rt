@@ -3,15 +3,15 @@
 ghost use Rattle.std.specs.Prelude.{◌≡◌, IfOk, map, option_map};
 ghost use Rattle.dy_tree.specs.Fragments.{seen_fragments};
 ghost use Rattle.dy_rules.specs.SeenForms.{seen_form};
-ghost use Rattle.dy_surface.specs.Forms.{draft_of};
 ghost use Rattle.dy_subset.specs.Forms.{seen_top, seen_reading, seen_row};
 ghost use Rattle.dy_judge.specs.Pieces.{seen_piece};
-ghost use Rattle.dy_judge.specs.Forms.{reading_of, taken_top, reading_in, row_of, Tells};
+ghost use Rattle.dy_judge.specs.Forms.{reading_of, form_reading, reading_in, row_of, Tells};
 
 use crate::pieces::{Piece, place_of};
 use dy_base::{Kind, Refusal};
+use dy_constructs::absent_construct;
 use dy_read_forms::parse;
-use dy_subset::{Reading, Row, Top, are_taken, top_of};
+use dy_subset::{Reading, Row, Top, top_of};
 use dy_surface::to_core;
 use dy_tree::{Form, Fragment};
 use std::alloc::{AllocError, Global};
@@ -26,15 +26,17 @@ fn reading_of(top: Option<Top>) -> Reading
     }
 }
 
-/// What a form that was parsed is, if it has only tokens of forms that run.
-fn taken(alloc: Global, fragments: &Vec<Fragment>, form: &Form) -> Result<Option<Top>, AllocError>
-    ensures { IfOk result (λ top. option_map seen_top top ≡ taken_top (seen_fragments fragments.now.items) (draft_of (seen_form form.now))) }
+/// What a form that was parsed is read as: it is refused where it holds a construct that has not
+/// come.
+fn form_reading(alloc: Global, form: &Form) -> Result<Reading, AllocError>
+    ensures { IfOk result (λ reading. seen_reading reading ≡ form_reading (seen_form form.now)) }
 {
-    if are_taken(fragments) {
-        let draft = to_core(alloc, form)?;
-        top_of(alloc, &draft)
-    } else {
-        Ok(None)
+    match absent_construct(form) {
+        Some(_) => Ok(Reading::Faulty(Kind::Syntax)),
+        None => {
+            let draft = to_core(alloc, form)?;
+            Ok(reading_of(top_of(alloc, &draft)?))
+        }
     }
 }
 
@@ -50,10 +52,11 @@ fn refused_reading(refusal: Refusal) -> Result<Reading, AllocError>
 
 /// What the fragments of a form are read as.
 fn read_form(alloc: Global, fragments: &Vec<Fragment>) -> Result<Reading, AllocError>
-    ensures { IfOk result (λ reading. seen_reading reading ≡ reading_in (seen_fragments fragments.now.items)) }
+    ensures { IfOk result (λ reading. seen_reading reading
+        ≡ reading_in (seen_fragments fragments.now.items)) }
 {
     match parse(alloc, fragments) {
-        Ok(form) => Ok(reading_of(taken(alloc, fragments, &form)?)),
+        Ok(form) => form_reading(alloc, &form),
         Err(refusal) => refused_reading(refusal),
     }
 }
@@ -66,13 +69,14 @@ fn read_piece(alloc: Global, piece: &Piece) -> Result<Row, AllocError>
     Ok(Row { place, reading })
 }
 
-/// What the forms of a file are read as, each by itself.
-pub(crate) fn rows_of(alloc: Global, pieces: &[Piece]) -> Result<Vec<Row>, AllocError>
-    ensures { IfOk result (λ rows. map seen_row rows.items ≡ map row_of (map seen_piece pieces.now)) }
+/// What the forms of a file are read as, each by itself and given back when it is read.
+pub(crate) fn rows_of(alloc: Global, pieces: Vec<Piece>) -> Result<Vec<Row>, AllocError>
+    ensures { IfOk result (λ rows.
+        map seen_row rows.items ≡ map row_of (map seen_piece pieces.items)) }
 {
     let mut rows = Vec::new(alloc);
     for piece in pieces {
-        rows.push(read_piece(alloc, piece)?)?;
+        rows.push(read_piece(alloc, &piece)?)?;
     }
     Ok(rows)
 }

@@ -4,7 +4,9 @@ ghost use Rattle.std.specs.Prelude.{◌≡◌, ◌<◌, ◌^◌, length, map, []
 ghost use Rattle.dy_base.specs.declared.kind.Kind.TheVariants.{Unbound};
 ghost use Rattle.dy_tree.specs.Fragments.{seen_fragments};
 ghost use Rattle.dy_subset.specs.Forms.{seen_row};
-ghost use Rattle.dy_judge.specs.Verdicts.{refused, syntax_at, fault_with, first_place, row_verdict, forms_verdict, Judged, JudgesTokens, JudgesSources, JudgesFiles, IsVerdict, IsPlain};
+ghost use Rattle.dy_judge.specs.Verdicts.{refused, syntax_at, fault_with, first_place, row_verdict};
+ghost use Rattle.dy_judge.specs.Verdicts.{forms_verdict, Judged, JudgesTokens, JudgesSources};
+ghost use Rattle.dy_judge.specs.Verdicts.{JudgesFiles, IsVerdict, IsPlain};
 
 use crate::forms::rows_of;
 use crate::lexing::{Lexed, first_fault, lex_file};
@@ -16,7 +18,7 @@ use dy_fragment::group;
 use dy_lexer::Source;
 use dy_runnable::Program;
 use dy_subset::{Finding, Row, methods_of, program_of, rows_found};
-use dy_tree::{Fragment, Token};
+use dy_tree::{Fragment, Token, Words};
 use std::alloc::Global;
 
 /// A fault whose subject is written later.
@@ -40,7 +42,8 @@ fn syntax_at(alloc: Global, place: Place) -> Refusal
 
 /// The name of a token has no binding.
 fn unbound(alloc: Global, token: &Token) -> Refusal
-    ensures { Judged (λ verdict. verdict ≡ refused (fault_with Unbound token.now.place (token.now.text ∷ []))) (Err result) }
+    ensures { Judged (λ verdict. verdict
+        ≡ refused (fault_with Unbound token.now.place (token.now.text ∷ []))) (Err result) }
 {
     let mut shown = Items::new(alloc);
     match Text::of(alloc, token.text.bytes()) {
@@ -53,11 +56,17 @@ fn unbound(alloc: Global, token: &Token) -> Refusal
 }
 
 /// The program of these forms, or what is told of them.
-fn judge_rows(alloc: Global, library: &[u8], rows: &[Row]) -> Result<Program, Refusal>
-    ensures { Judged (λ verdict. verdict ≡ row_verdict library.now (map seen_row rows.now)) result }
+fn judge_rows(
+    alloc: Global,
+    library: &[u8],
+    words: &Words,
+    rows: &[Row],
+) -> Result<Program, Refusal>
+    ensures { Judged (λ verdict. verdict
+        ≡ row_verdict library.now words.now (map seen_row rows.now)) result }
 {
     let methods = methods_of(alloc, rows)?;
-    match rows_found(alloc, &methods, rows)? {
+    match rows_found(alloc, words, &methods, rows)? {
         Finding::Fine => Ok(program_of(alloc, library, &methods, rows)?),
         Finding::Unbound(token) => Err(unbound(alloc, &token)),
         Finding::Unfit(kind, place) => Err(fault_with(alloc, kind, place, Items::new(alloc))),
@@ -65,21 +74,28 @@ fn judge_rows(alloc: Global, library: &[u8], rows: &[Row]) -> Result<Program, Re
 }
 
 /// The program of a file of these fragments.
-fn judge_forms(alloc: Global, library: &[u8], fragments: Vec<Fragment>) -> Result<Program, Refusal>
-    ensures { Judged (λ verdict. verdict ≡ forms_verdict library.now (seen_fragments fragments.items)) result }
+fn judge_forms(
+    alloc: Global,
+    library: &[u8],
+    words: &Words,
+    fragments: Vec<Fragment>,
+) -> Result<Program, Refusal>
+    ensures { Judged (λ verdict. verdict
+        ≡ forms_verdict library.now words.now (seen_fragments fragments.items)) result }
 {
     let pieces = pieces_of(alloc, fragments)?;
-    let rows = rows_of(alloc, &pieces)?;
-    judge_rows(alloc, library, &rows)
+    let rows = rows_of(alloc, pieces)?;
+    judge_rows(alloc, library, words, &rows)
 }
 
-/// The program of a file of these tokens.
-fn judge_tokens(alloc: Global, library: &[u8], tokens: &Items<Token>) -> Result<Program, Refusal>
-    ensures { Judged (JudgesTokens library.now tokens.now) result }
+/// The program of a file of these tokens, which are given back before the forms are read.
+fn judge_tokens(alloc: Global, library: &[u8], tokens: Items<Token>) -> Result<Program, Refusal>
+    ensures { Judged (JudgesTokens library.now tokens) result }
 {
     let words = words(alloc)?;
-    let fragments = group(alloc, tokens, &words)?;
-    judge_forms(alloc, library, fragments.into_vec())
+    let fragments = group(alloc, &tokens, &words)?;
+    drop(tokens);
+    judge_forms(alloc, library, &words, fragments.into_vec())
 }
 
 /// Where the first token of a file stands, or its begin where it has none.
@@ -96,19 +112,19 @@ fn first_place(file: u32, tokens: &[Token]) -> Place
 fn judge_sources(
     alloc: Global,
     library: &[u8],
-    first: &Source,
-    second: &Source,
+    first: Source,
+    second: Source,
 ) -> Result<Program, Refusal>
-    ensures { Judged (JudgesSources library.now first.now second.now) result }
+    ensures { Judged (JudgesSources library.now first second) result }
 {
-    if !is_library(library, first) {
+    if !is_library(library, &first) {
         let place = first_place(0, first.tokens.as_slice());
         return Err(syntax_at(alloc, place));
     }
     if second.module.bytes() != library {
         return Err(syntax_at(alloc, Place { file: 1, offset: 0 }));
     }
-    judge_tokens(alloc, library, &second.tokens)
+    judge_tokens(alloc, library, second.tokens)
 }
 
 /// The program of what two files are lexed as.
@@ -124,21 +140,25 @@ fn judge_files(
         Lexed::Faulty(fault) => Err(Refusal::Fault(first_fault(fault, second))),
         Lexed::Read(first) => match second {
             Lexed::Faulty(fault) => Err(Refusal::Fault(fault)),
-            Lexed::Read(second) => judge_sources(alloc, library, &first, &second),
+            Lexed::Read(second) => judge_sources(alloc, library, first, second),
         },
     }
 }
 
-/// The program of the library of this name whose two source files hold these bytes, or its first fault,
-/// whose subject is left empty, with the number of the file, 0 or 1 (DRM 2, "Dylan interchange format"; the
-/// order of faults is own). In this order are told
+/// The program of the library of this name whose two source files hold these bytes, or its first
+/// fault, whose subject is left empty, with the number of the file, 0 or 1 (DRM 2, "Dylan
+/// interchange format"; the order of faults is own). In this order are told
 ///
-/// - `BadHeader` of either file, then `BadByte`, `OpenComment`, `OpenString`, `BadLiteral` and `WideInteger`, at the
-///   first place of the first file that has one;
-/// - `Syntax` at the first token of the first file, where it is not the definition of the library and its
-///   module as it has to be today, and at the begin of the second file, where its module is another;
+/// - `BadHeader` of either file, then `BadByte`, `OpenComment`, `OpenString`, `BadLiteral` and
+///   `WideInteger`, at the first place of the first file that has one;
+/// - `Syntax` at the first token of the first file, where it is not the definition of the library
+///   and its module as it has to be today, and at the begin of the second file, where its module is
+///   another;
 /// - `Unbalanced` and `TooDeep` of the second file's groups;
-/// - `Syntax` and `TooDeep` of its forms, at the first token of the first such form;
+/// - `Syntax` and `TooDeep` of its forms, at the first token of the first such form: `Syntax` where
+///   it is none, where it holds a construct that has not come, where it defines a name that has a
+///   definition, that `dylan` or `io` exports, or that is a word of statements or definitions, and
+///   where it uses a function as a value, calls its parameter, or names a function of a library;
 /// - `Unbound`, at the first name that has no binding.
 ///
 /// Or the refusal says that memory did not suffice.

@@ -34,8 +34,8 @@ fn is_header(fault: &Fault) -> bool
     fault.kind == Kind::BadHeader
 }
 
-/// What is told of the fault of the first file and of what the second file is lexed as: faults of headers
-/// come before those of tokens.
+/// What is told of the fault of the first file and of what the second file is lexed as: faults of
+/// headers come before those of tokens.
 pub(crate) fn first_fault(fault: Fault, other: Lexed) -> Fault
     ensures { result ≡ first_fault fault other }
 {

@@ -1,7 +1,9 @@
 //! The file that defines the library and its module, as it has to be today.
 
 ghost use Rattle.std.specs.Prelude.{◌≡◌, option_map, option_copied};
-ghost use Rattle.dy_judge.specs.Library.{behind_word, behind_semicolon, behind_define, behind_use, behind_end, behind_library, behind_module, are_definitions, is_library};
+ghost use Rattle.dy_judge.specs.Library.{behind_word, behind_semicolon, behind_define, behind_use};
+ghost use Rattle.dy_judge.specs.Library.{behind_end, behind_library, behind_module};
+ghost use Rattle.dy_judge.specs.Library.{are_definitions, is_library};
 
 use crate::pieces::is_semicolon;
 use dy_lexer::Source;

@@ -67,7 +67,8 @@ pub(crate) fn place_of(piece: &Piece) -> Place
 
 /// The forms of a file. Where nothing stands behind the last semicolon there is none.
 pub(crate) fn pieces_of(alloc: Global, fragments: Vec<Fragment>) -> Result<Vec<Piece>, AllocError>
-    ensures { IfOk result (λ pieces. map seen_piece pieces.items ≡ pieces_of (seen_fragments fragments.items)) }
+    ensures { IfOk result (λ pieces. map seen_piece pieces.items
+        ≡ pieces_of (seen_fragments fragments.items)) }
 {
     let mut pieces = Vec::new(alloc);
     let mut current = Vec::new(alloc);

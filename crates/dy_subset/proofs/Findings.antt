@@ -9,13 +9,16 @@ use Rattle.std.specs.Str.{bytes_eq}
 use Rattle.std.specs.Cmp.Lexicographic.{slice_cmp, nat_list_cmp_total, texts_ties}
 use Rattle.std.proofs.lemmas.List.{map-append}
 use Rattle.dy_base.specs.Tables.{NameMap}
+use Rattle.dy_base.specs.declared.kind.Kind.TheVariants.{Syntax}
 use Rattle.dy_base.specs.declared.fault.Place.{Place}
 use Rattle.dy_tree.specs.declared.token.Token.{Token}
+use Rattle.dy_tree.specs.declared.words.Words.{Words}
 use Rattle.dy_subset.specs.declared.names.Finding.{Finding}
 use Rattle.dy_subset.specs.declared.names.Finding.TheVariants.{Fine, Unbound, Unfit}
 use Rattle.dy_subset.specs.declared.row.Row.{Row as HeldRow}
 use Rattle.dy_subset.specs.Forms.{SumTree, number, variable, operation, called, choice, TopTree, print, method, Reading, fits, faulty, Row, seen_row}
-use Rattle.dy_subset.specs.Names.{Use, used, sum_uses, defined_name, listed, name_of, method_names, methods_of, is_among, is_parameter, unfit_if, standing, top_findings, reading_findings, findings_from, findings, is_unfit, is_unbound, first_or, told}
+use Rattle.dy_subset.specs.Operators.{is_exported}
+use Rattle.dy_subset.specs.Names.{Use, used, sum_uses, defined_name, listed, name_of, method_names, methods_of, is_among, is_parameter, is_reserved, unfit_if, standing, top_findings, reading_findings, findings_from, findings, is_unfit, is_unbound, first_or, told}
 use Rattle.dy_subset.specs.Findings.{joined, is_in, use_found, sum_found, sums_found, top_found, reading_found, with_name, with_method, rows_found}
 use Rattle.dy_subset.proofs.Numbered.{some_or, has_number}
 
@@ -72,9 +75,9 @@ pub some_copied : {V : Type 0} (o : Option (Bor V)) → is_some (option_copied o
 some_copied None = refl
 some_copied (Some v) = refl
 
-pub rows_end : (methods : NameMap ℕ) (earlier : NameMap Bool) (rows : List HeldRow) → length rows ≡ 0 → rows_found methods earlier (map seen_row rows) ≡ Fine
-rows_end methods earlier [] none = refl
-rows_end methods earlier (row ∷ rows) none = absurd (omega arith)
+pub rows_end : (words : Words) (methods : NameMap ℕ) (earlier : NameMap Bool) (rows : List HeldRow) → length rows ≡ 0 → rows_found words methods earlier (map seen_row rows) ≡ Fine
+rows_end words methods earlier [] none = refl
+rows_end words methods earlier (row ∷ rows) none = absurd (omega arith)
 
 -- the names of a table are these
 abbrev Knows : {V : Type 0} → NameMap V → List (List ℕ) → Type 0
@@ -91,14 +94,14 @@ knows_named : (table : NameMap Bool) (names : List (List ℕ)) (name : Option (L
 knows_named table names None knows = knows
 knows_named table names (Some name) knows = knows_more table names name knows
 
-module _ (table : NameMap ℕ) (methods : List (List ℕ)) (knows : Knows table methods) where
+module _ (words : Words) (table : NameMap ℕ) (methods : List (List ℕ)) (knows : Knows table methods) where
   -- what is told of uses
   abbrev uses_told : Option Token → Place → List Use → Finding
   uses_told parameter place uses = told (map (standing methods parameter place) uses)
 
   use_is : (parameter : Option Token) (place : Place) (token : Token) (is_called : Bool) → use_found table parameter place token is_called ≡ standing methods parameter place (used token is_called)
   use_is parameter place token is_called =
-      ap (λ (b : Bool). if is_parameter parameter token then unfit_if is_called place else if b then unfit_if (not is_called) place else Unbound token) (knows token.text)
+      ap (λ (b : Bool). if is_parameter parameter token then unfit_if is_called place else if is_exported token then Unfit Syntax place else if b then unfit_if (not is_called) place else Unbound token) (knows token.text)
 
   both_told : (parameter : Option Token) (place : Place) (left right : List Use) → joined (uses_told parameter place left) (uses_told parameter place right) ≡ uses_told parameter place (left ++ right)
   both_told parameter place left right =
@@ -120,26 +123,26 @@ module _ (table : NameMap ℕ) (methods : List (List ℕ)) (knows : Knows table 
   sums_are place [] = refl
   sums_are place (sum ∷ sums) = joined_same _ _ _ _ (sum_is None place sum) (sums_are place sums) ∙ both_told None place (sum_uses sum) (flat_map sum_uses sums)
 
-  top_is : (earlier : NameMap Bool) (names : List (List ℕ)) (place : Place) (top : TopTree) → Knows earlier names → top_found table earlier place top ≡ told (top_findings methods names top place)
+  top_is : (earlier : NameMap Bool) (names : List (List ℕ)) (place : Place) (top : TopTree) → Knows earlier names → top_found words table earlier place top ≡ told (top_findings words methods names top place)
   top_is earlier names place (print text values) known = sums_are place values
   top_is earlier names place (method name parameter body) known =
-      joined_same _ _ _ _ (ap (λ (b : Bool). unfit_if b place) (known name.text)) (sum_is (Some parameter) place body)
-      ∙ sym (told_first (unfit_if (is_among names name.text) place) (map (standing methods (Some parameter) place) (sum_uses body)))
+      joined_same _ _ _ _ (ap (λ (b : Bool). unfit_if (b || is_reserved words name || is_exported parameter) place) (known name.text)) (sum_is (Some parameter) place body)
+      ∙ sym (told_first (unfit_if (is_among names name.text || is_reserved words name || is_exported parameter) place) (map (standing methods (Some parameter) place) (sum_uses body)))
 
-  reading_is : (earlier : NameMap Bool) (names : List (List ℕ)) (place : Place) (reading : Reading) → Knows earlier names → reading_found table earlier place reading ≡ told (reading_findings methods names reading place)
+  reading_is : (earlier : NameMap Bool) (names : List (List ℕ)) (place : Place) (reading : Reading) → Knows earlier names → reading_found words table earlier place reading ≡ told (reading_findings words methods names reading place)
   reading_is earlier names place (fits top) known = top_is earlier names place top known
   reading_is earlier names place (faulty kind) known = refl
 
-  rows_from : (earlier : NameMap Bool) (names : List (List ℕ)) (rows : List Row) → Knows earlier names → rows_found table earlier rows ≡ told (findings_from methods names rows)
+  rows_from : (earlier : NameMap Bool) (names : List (List ℕ)) (rows : List Row) → Knows earlier names → rows_found words table earlier rows ≡ told (findings_from words methods names rows)
   rows_from earlier names [] known = refl
   rows_from earlier names (row ∷ rows) known =
-      let own = reading_findings methods names row.reading row.place in
-      let others = findings_from methods (name_of row ++ names) rows in
+      let own = reading_findings words methods names row.reading row.place in
+      let others = findings_from words methods (name_of row ++ names) rows in
       joined_same _ _ _ _ (reading_is earlier names row.place row.reading known) (rows_from (with_method earlier row) (name_of row ++ names) rows (knows_named earlier names (defined_name row) known))
       ∙ sym (told_append own others)
 
 none_known : Knows {V = Bool} finite.empty []
 none_known = λ name. ap is_some (get-empty {X = Bool} (slice_cmp nat_cmp) name)
 
-pub rows_are : (rows : List Row) → rows_found (methods_of rows) finite.empty rows ≡ told (findings rows)
-rows_are rows = rows_from (methods_of rows) (method_names rows) (has_number (method_names rows)) finite.empty [] rows none_known
+pub rows_are : (words : Words) (rows : List Row) → rows_found words (methods_of rows) finite.empty rows ≡ told (findings words rows)
+rows_are words rows = rows_from words (methods_of rows) (method_names rows) (has_number (method_names rows)) finite.empty [] rows none_known

@@ -1,4 +1,3 @@
-pub mod Groups
 pub mod Terms
 pub mod Calls
 pub mod Libraries

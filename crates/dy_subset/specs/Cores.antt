@@ -1,5 +1,6 @@
--- What a core is as an expression or a form that runs (own).
-use Rattle.std.specs.Prelude.{ℕ, ℤ, Bool, true, false, ◌||◌, List, [], ◌∷◌, length, codes, Option, Some, None, if◌then◌else◌}
+-- What a core is as an expression or a form of those that run (own).
+use Rattle.std.specs.Prelude.{ℕ, Bool, false, List, [], ◌∷◌, codes, Option, Some, None}
+use Rattle.std.specs.Prelude.{if◌then◌else◌}
 use Rattle.dy_tree.specs.declared.token.Token.{Token}
 use Rattle.dy_tree.specs.Spelling.{is_spelled}
 use Rattle.dy_term.specs.declared.literal.Literal.{Literal, Int, Str}
@@ -7,12 +8,10 @@ use Rattle.dy_term.specs.Types.{CoreType}
 use Rattle.dy_term.specs.Drafts as core
 use Rattle.dy_term.specs.Drafts.{Core, Cores, Choice, CoreItems, CoreLambda, lambda}
 use Rattle.dy_term.specs.Rows.{CoreMethod, CoreDraft, method_row, top_term, run}
-use Rattle.dy_drafts.specs.Shapes.{has}
 use Rattle.dy_subset.specs.declared.sum.Operator.{Operator}
-use Rattle.dy_subset.specs.Forms.{SumTree, number, variable, operation, called, choice, TopTree, print, method}
-use Rattle.dy_subset.specs.Operators.{operator_of, is_built_in}
-use Rattle.dy_subset.specs.Directives.{has_directives}
-use Rattle.dy_subset.specs.Comparisons.{is_placed}
+use Rattle.dy_subset.specs.Forms.{SumTree, number, variable, operation, called, choice, TopTree}
+use Rattle.dy_subset.specs.Forms.{print, method}
+use Rattle.dy_subset.specs.Operators.{operator_of}
 
 abbrev pub number_in : Literal → Option SumTree
 number_in (Int value) = Some (number value)
@@ -22,12 +21,9 @@ abbrev pub name_in : Core → Option Token
 name_in (core.name token) = Some token
 name_in _ = None
 
-abbrev pub variable_by : Token → Option SumTree
-variable_by token = if is_built_in token then None else Some (variable token)
-
 -- a call with one argument
 abbrev pub call_by : Option Token → Option SumTree → Option SumTree
-call_by (Some token) (Some argument) = if is_built_in token then None else Some (called token argument)
+call_by (Some token) (Some argument) = Some (called token argument)
 call_by _ _ = None
 
 abbrev pub operation_with : Option Operator → SumTree → SumTree → Option SumTree
@@ -48,21 +44,24 @@ chosen (Some pair) (Some other) = Some (choice pair.0 pair.1 other)
 chosen _ _ = None
 
 abbrev mutual
-  -- an expression: a number, a name, a call with one argument, an operation, or an `if` with one test
+  -- an expression: a number, a name, a call with one argument, an operation, or an `if` with one
+  -- test
   pub sum_in : Core → Option SumTree
   sum_in (core.literal value) = number_in value
-  sum_in (core.name token) = variable_by token
+  sum_in (core.name token) = Some (variable token)
   sum_in (core.call function arguments) = called_in (name_in function) arguments
   sum_in (core.cond options) = choice_in options
   sum_in _ = None
 
   pub called_in : Option Token → Cores → Option SumTree
   called_in function (core.core_and argument core.no_core) = call_by function (sum_in argument)
-  called_in function (core.core_and left (core.core_and right core.no_core)) = operation_by function (sum_in left) (sum_in right)
+  called_in function (core.core_and left (core.core_and right core.no_core)) =
+      operation_by function (sum_in left) (sum_in right)
   called_in function _ = None
 
   pub choice_in : Choice → Option SumTree
-  choice_in (core.branch test term (core.otherwise other)) = chosen (branched (sum_in test) (body_in term)) (body_in other)
+  choice_in (core.branch test term (core.otherwise other)) =
+      chosen (branched (sum_in test) (body_in term)) (body_in other)
   choice_in _ = None
 
   -- a body that is one expression
@@ -98,9 +97,8 @@ abbrev pub text_in : Core → Option (List ℕ)
 text_in (core.literal value) = string_in value
 text_in _ = None
 
--- As many values stand behind a text as it has directives.
 abbrev pub printed : Option (List ℕ) → Option (List SumTree) → Option TopTree
-printed (Some text) (Some values) = if has_directives text (length values) then Some (print text values) else None
+printed (Some text) (Some values) = Some (print text values)
 printed _ _ = None
 
 abbrev pub print_of : List Core → Option TopTree
@@ -118,7 +116,8 @@ terms_in (core.core_and first rest) = first ∷ terms_in rest
 
 -- a call of `format-out`
 abbrev pub print_in : Core → Option TopTree
-print_in (core.call function arguments) = if names_format_out (name_in function) then print_of (terms_in arguments) else None
+print_in (core.call function arguments) =
+    if names_format_out (name_in function) then print_of (terms_in arguments) else None
 print_in _ = None
 
 -- the only required parameter
@@ -127,25 +126,19 @@ required_in (pair ∷ []) = Some pair.0
 required_in _ = None
 
 abbrev pub defined : Token → Option Token → Option SumTree → Option TopTree
-defined name (Some parameter) (Some body) = if is_built_in name || is_built_in parameter then None else Some (method name parameter body)
+defined name (Some parameter) (Some body) = Some (method name parameter body)
 defined name _ _ = None
 
 abbrev pub defined_by : Token → CoreLambda → Option TopTree
-defined_by name (lambda params defaults term results) = defined name (required_in params.required) (body_in term)
+defined_by name (lambda params defaults term results) =
+    defined name (required_in params.required) (body_in term)
 
 -- a method of one parameter whose body is one expression
 abbrev pub method_in : CoreMethod → Option TopTree
-method_in found = if has (codes "sealed") found.adjectives then None else defined_by found.generic found.code
+method_in found = defined_by found.generic found.code
 
-abbrev pub form_in : CoreDraft → Option TopTree
-form_in (top_term (run term)) = print_in term
-form_in (method_row found) = method_in found
-form_in _ = None
-
-abbrev pub checked : Option TopTree → Option TopTree
-checked None = None
-checked (Some top) = if is_placed top then Some top else None
-
--- the form that a draft is, if it runs
+-- the form that a draft is, if it is one of those
 abbrev pub top_in : CoreDraft → Option TopTree
-top_in draft = checked (form_in draft)
+top_in (top_term (run term)) = print_in term
+top_in (method_row found) = method_in found
+top_in _ = None

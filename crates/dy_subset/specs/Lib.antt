@@ -1,8 +1,5 @@
 pub mod Forms
 pub mod Operators
-pub mod Taken
-pub mod Directives
-pub mod Comparisons
 pub mod Cores
 pub mod Names
 pub mod Findings

@@ -7,7 +7,9 @@ use Rattle.dy_base.specs.declared.ids.GenericId.{GenericId}
 use Rattle.dy_base.specs.declared.ids.BindingId.{BindingId}
 use Rattle.dy_base.specs.declared.ids.What.TheVariants.{Function}
 use Rattle.dy_runnable.specs.declared.literal.Literal.TheVariants.{Int, Str}
-use Rattle.dy_runnable.specs.Core.{Core, literal, local, global, call, site, cond, none, more, otherwise, branch, cores_of, CoreGeneric, CoreMethod, CoreLibrary}
+use Rattle.dy_runnable.specs.Core.{Core, literal, local, global, call, site, cond, none, more}
+use Rattle.dy_runnable.specs.Core.{otherwise, branch, cores_of, CoreGeneric, CoreMethod}
+use Rattle.dy_runnable.specs.Core.{CoreLibrary}
 use Rattle.dy_subset.specs.declared.sum.Operator.{Operator}
 use Rattle.dy_subset.specs.declared.sum.Operator.TheVariants.{Add, Subtract, Multiply, Less, Equal}
 use Rattle.dy_subset.specs.Forms as forms
@@ -46,7 +48,8 @@ call_of function left right = call (global function) (more left (more right none
 abbrev pub choice_term : Core → Core → Core → Core
 choice_term test chosen other = cond (branch test chosen (otherwise other))
 
--- An operation is a call of the generic function of its operator, a row of the library `dylan` (DRM 4); `==` is none.
+-- An operation is a call of the generic function of its operator, a row of the library `dylan` (DRM
+-- 4); `==` is none.
 abbrev pub operation_term : Operator → Core → Core → Core
 operation_term Add left right = site_of (generic_id 0 0) left right
 operation_term Subtract left right = site_of (generic_id 0 1) left right
@@ -58,9 +61,12 @@ operation_term Equal left right = call_of identity left right
 abbrev pub term_of : NameMap ℕ → SumTree → Core
 term_of methods (forms.number value) = literal (Int value)
 term_of methods (forms.variable token) = local 0
-term_of methods (forms.operation operator left right) = operation_term operator (term_of methods left) (term_of methods right)
-term_of methods (forms.called function argument) = site (method_generic methods function.text) (more (term_of methods argument) none)
-term_of methods (forms.choice test chosen other) = choice_term (term_of methods test) (term_of methods chosen) (term_of methods other)
+term_of methods (forms.operation operator left right) =
+    operation_term operator (term_of methods left) (term_of methods right)
+term_of methods (forms.called function argument) =
+    site (method_generic methods function.text) (more (term_of methods argument) none)
+term_of methods (forms.choice test chosen other) =
+    choice_term (term_of methods test) (term_of methods chosen) (term_of methods other)
 
 -- the arguments of a call that prints
 abbrev pub terms_of : NameMap ℕ → List ℕ → List SumTree → List Core
@@ -69,12 +75,14 @@ terms_of methods text values = literal (Str text) ∷ map (term_of methods) valu
 abbrev pub print_term : NameMap ℕ → List ℕ → List SumTree → Core
 print_term methods text values = call (global format_out) (cores_of (terms_of methods text values))
 
--- A method without a generic function of its own makes one, which requires as many arguments (DRM 6).
+-- A method without a generic function of its own makes one, which requires as many arguments (DRM
+-- 6).
 abbrev pub generic_core : List ℕ → CoreGeneric
 generic_core name = record { name = folded name; parameters = 1 }
 
 abbrev pub method_core : NameMap ℕ → List ℕ → SumTree → CoreMethod
-method_core methods name body = record { generic = method_generic methods name; locals = 0; body = term_of methods body }
+method_core methods name body =
+    record { generic = method_generic methods name; locals = 0; body = term_of methods body }
 
 -- the methods that a row defines, and the terms of it that run
 abbrev pub top_methods : NameMap ℕ → TopTree → List CoreMethod
@@ -99,24 +107,34 @@ row_methods methods row = reading_methods methods row.reading
 abbrev pub row_terms : NameMap ℕ → Row → List Core
 row_terms methods row = reading_terms methods row.reading
 
-abbrev pub library_row : List ℕ → List ℕ → List CoreGeneric → List CoreMethod → List Core → CoreLibrary
-library_row name uses generics methods tops = record { name = folded name; uses = uses; generics = generics; methods = methods; tops = tops }
+abbrev pub library_row : List ℕ → List ℕ → List CoreGeneric → List CoreMethod → List Core
+    → CoreLibrary
+library_row name uses generics methods tops =
+    record { name = folded name; uses = uses; generics = generics; methods = methods; tops = tops }
 
 -- the library of a file whose methods have these numbers
 abbrev pub main_row : List ℕ → NameMap ℕ → List Row → CoreLibrary
 main_row name methods rows =
-    library_row name (0 ∷ 1 ∷ []) (map generic_core (method_names rows)) (flat_map (row_methods methods) rows) (flat_map (row_terms methods) rows)
+    library_row name (0 ∷ 1 ∷ []) (map generic_core (method_names rows))
+    (flat_map (row_methods methods) rows) (flat_map (row_terms methods) rows)
 
 -- the library and what it uses, in load order
 abbrev pub program_with : List ℕ → NameMap ℕ → List Row → List CoreLibrary
-program_with name methods rows = library_row (codes "dylan") [] [] [] [] ∷ library_row (codes "io") (0 ∷ []) [] [] [] ∷ main_row name methods rows ∷ []
+program_with name methods rows =
+    library_row (codes "dylan") [] [] [] [] ∷ library_row (codes "io") (0 ∷ []) [] [] []
+    ∷ main_row name methods rows ∷ []
 
 abbrev pub program_of : List ℕ → List Row → List CoreLibrary
 program_of name rows = program_with name (methods_of rows) rows
 
 -- a library with more rows
 abbrev pub grown : CoreLibrary → List CoreGeneric → List CoreMethod → List Core → CoreLibrary
-grown library generics methods tops = record library { generics = library.generics ++ generics; methods = library.methods ++ methods; tops = library.tops ++ tops }
+grown library generics methods tops =
+    record library {
+      generics = library.generics ++ generics;
+      methods = library.methods ++ methods;
+      tops = library.tops ++ tops;
+    }
 
 abbrev pub top_generics : TopTree → List CoreGeneric
 top_generics (print text values) = []
@@ -124,7 +142,8 @@ top_generics (method name parameter body) = generic_core name.text ∷ []
 
 -- a library with what a form adds to it
 abbrev pub with_top : NameMap ℕ → CoreLibrary → TopTree → CoreLibrary
-with_top methods library top = grown library (top_generics top) (top_methods methods top) (top_terms methods top)
+with_top methods library top =
+    grown library (top_generics top) (top_methods methods top) (top_terms methods top)
 
 abbrev pub with_reading : NameMap ℕ → CoreLibrary → Reading → CoreLibrary
 with_reading methods library (fits top) = with_top methods library top

@@ -1,12 +1,14 @@
-//! Expressions of the core that run today.
+//! Expressions of the core, of those that run today.
 
 ghost use Rattle.std.specs.Prelude.{◌≡◌, map, option_map, IfOk};
 ghost use Rattle.std.specs.Option.{option_copied};
 ghost use Rattle.dy_term.specs.Drafts.{seen_term, seen_pair, seen_item, cores_of, items_of};
 ghost use Rattle.dy_subset.specs.Forms.{seen_sum, seen_branch, seen_token};
-ghost use Rattle.dy_subset.specs.Cores.{number_in, name_in, variable_by, call_by, operation_by, branched, chosen, sum_in, called_in, branch_in, body_in, only_in, all_in};
+ghost use Rattle.dy_subset.specs.Cores.{number_in, name_in, call_by, operation_by, branched};
+ghost use Rattle.dy_subset.specs.Cores.{chosen, sum_in, called_in, branch_in, body_in, only_in};
+ghost use Rattle.dy_subset.specs.Cores.{all_in};
 
-use crate::operator::{is_built_in, operator_of};
+use crate::operator::operator_of;
 use crate::sum::Sum;
 use dy_term::{DraftItem, DraftTerm, Literal};
 use dy_tree::Token;
@@ -32,33 +34,19 @@ pub(crate) fn name_of(term: &DraftTerm) -> Option<&Token>
     }
 }
 
-/// A name by itself.
-fn variable_of(token: &Token) -> Result<Option<Sum>, AllocError>
-    ensures { IfOk result (λ sum. option_map seen_sum sum ≡ variable_by token.now) }
-{
-    if is_built_in(token) {
-        Ok(None)
-    } else {
-        Ok(Some(Sum::Name(token.copy()?)))
-    }
-}
-
 /// A call with one argument.
 fn call(
     alloc: Global,
     function: Option<&Token>,
     argument: Option<Sum>,
 ) -> Result<Option<Sum>, AllocError>
-    ensures { IfOk result (λ sum. option_map seen_sum sum ≡ call_by (option_map seen_token function.entry) (option_map seen_sum argument)) }
+    ensures { IfOk result (λ sum. option_map seen_sum sum
+        ≡ call_by (option_map seen_token function.entry) (option_map seen_sum argument)) }
 {
     match (function, argument) {
         (Some(token), Some(argument)) => {
-            if is_built_in(token) {
-                Ok(None)
-            } else {
-                let argument = Box::new(alloc, argument)?;
-                Ok(Some(Sum::Call(token.copy()?, argument)))
-            }
+            let argument = Box::new(alloc, argument)?;
+            Ok(Some(Sum::Call(token.copy()?, argument)))
         }
         _ => Ok(None),
     }
@@ -71,7 +59,9 @@ fn operation(
     left: Option<Sum>,
     right: Option<Sum>,
 ) -> Result<Option<Sum>, AllocError>
-    ensures { IfOk result (λ sum. option_map seen_sum sum ≡ operation_by (option_map seen_token function.entry) (option_map seen_sum left) (option_map seen_sum right)) }
+    ensures { IfOk result (λ sum. option_map seen_sum sum
+        ≡ operation_by (option_map seen_token function.entry) (option_map seen_sum left)
+        (option_map seen_sum right)) }
 {
     match (function, left, right) {
         (Some(token), Some(left), Some(right)) => match operator_of(token) {
@@ -94,7 +84,8 @@ pub(crate) struct Chance {
 }
 
 fn branched(test: Option<Sum>, chosen: Option<Sum>) -> Option<Chance>
-    ensures { option_map seen_branch result ≡ branched (option_map seen_sum test) (option_map seen_sum chosen) }
+    ensures { option_map seen_branch result
+        ≡ branched (option_map seen_sum test) (option_map seen_sum chosen) }
 {
     match (test, chosen) {
         (Some(test), Some(chosen)) => Some(Chance { test, chosen }),
@@ -108,7 +99,8 @@ fn choice(
     chance: Option<Chance>,
     other: Option<Sum>,
 ) -> Result<Option<Sum>, AllocError>
-    ensures { IfOk result (λ sum. option_map seen_sum sum ≡ chosen (option_map seen_branch chance) (option_map seen_sum other)) }
+    ensures { IfOk result (λ sum. option_map seen_sum sum
+        ≡ chosen (option_map seen_branch chance) (option_map seen_sum other)) }
 {
     match (chance, other) {
         (Some(chance), Some(other)) => {
@@ -130,7 +122,7 @@ pub(crate) fn sum_of(alloc: Global, term: &DraftTerm) -> Result<Option<Sum>, All
 {
     match term {
         DraftTerm::Lit(literal) => Ok(number_of(literal)),
-        DraftTerm::Name(token) => variable_of(token),
+        DraftTerm::Name(token) => Ok(Some(Sum::Name(token.copy()?))),
         DraftTerm::Call(function, arguments) => call_of(alloc, name_of(function), arguments),
         DraftTerm::Cond(branches, last) => {
             let chance = branch_of(alloc, branches)?;
@@ -159,7 +151,9 @@ fn call_of(
     function: Option<&Token>,
     arguments: &Vec<DraftTerm>,
 ) -> Result<Option<Sum>, AllocError>
-    ensures { IfOk result (λ sum. option_map seen_sum sum ≡ called_in (option_map seen_token function.entry) (cores_of (map seen_term arguments.now.items))) }
+    ensures { IfOk result (λ sum. option_map seen_sum sum
+        ≡ called_in (option_map seen_token function.entry)
+        (cores_of (map seen_term arguments.now.items))) }
 {
     if arguments.len() == 1 {
         let argument = sum_of(alloc, &arguments[0])?;
@@ -179,7 +173,8 @@ fn branch_of(
     alloc: Global,
     branches: &Vec<(DraftTerm, DraftTerm)>,
 ) -> Result<Option<Chance>, AllocError>
-    ensures { IfOk result (λ chance. option_map seen_branch chance ≡ branch_in (map seen_pair branches.now.items)) }
+    ensures { IfOk result (λ chance. option_map seen_branch chance
+        ≡ branch_in (map seen_pair branches.now.items)) }
 {
     if branches.len() == 1 {
         let (test, body) = &branches[0];
@@ -206,7 +201,8 @@ pub(crate) fn body_of(alloc: Global, term: &DraftTerm) -> Result<Option<Sum>, Al
 /// The expression that items are.
 #[cycle(sums)]
 fn only_of(alloc: Global, items: &Vec<DraftItem>) -> Result<Option<Sum>, AllocError>
-    ensures { IfOk result (λ sum. option_map seen_sum sum ≡ only_in (items_of (map seen_item items.now.items))) }
+    ensures { IfOk result (λ sum. option_map seen_sum sum
+        ≡ only_in (items_of (map seen_item items.now.items))) }
 {
     if items.len() == 1 {
         match &items[0] {
@@ -220,7 +216,8 @@ fn only_of(alloc: Global, items: &Vec<DraftItem>) -> Result<Option<Sum>, AllocEr
 
 /// The expressions that terms are.
 pub(crate) fn sums_of(alloc: Global, terms: &[DraftTerm]) -> Result<Option<Vec<Sum>>, AllocError>
-    ensures { IfOk result (λ sums. option_map (λ found. map seen_sum found.items) sums ≡ all_in (map seen_term terms.now)) }
+    ensures { IfOk result (λ sums. option_map (λ found. map seen_sum found.items) sums
+        ≡ all_in (map seen_term terms.now)) }
 {
     let mut sums = Vec::new(alloc);
     for term in terms {

@@ -1,19 +1,16 @@
-//! Forms of the core that run today.
+//! Forms of the core, of those that run today.
 
 ghost use Rattle.std.specs.Prelude.{◌≡◌, map, option_map, IfOk};
 ghost use Rattle.dy_term.specs.Drafts.{seen_term, seen_lambda};
 ghost use Rattle.dy_term.specs.Types.{seen_typed};
 ghost use Rattle.dy_term.specs.Rows.{seen_draft, seen_definition};
 ghost use Rattle.dy_subset.specs.Forms.{seen_sum, seen_top, seen_token};
-ghost use Rattle.dy_subset.specs.Cores.{name_in, string_in, text_in, printed, print_in, print_of, names_format_out, required_in, defined, method_in, form_in, top_in};
+ghost use Rattle.dy_subset.specs.Cores.{name_in, string_in, text_in, printed, print_in, print_of};
+ghost use Rattle.dy_subset.specs.Cores.{names_format_out, required_in, defined, method_in, top_in};
 
-use crate::comparisons::is_placed;
-use crate::directives::has_directives;
 use crate::draft::{body_of, name_of, sums_of};
-use crate::operator::is_built_in;
 use crate::sum::{Sum, Top};
 use dy_base::Text;
-use dy_drafts::has;
 use dy_term::{Draft, DraftMethod, DraftTerm, DraftTop, DraftType, Literal};
 use dy_tree::Token;
 use std::alloc::{AllocError, Global};
@@ -40,23 +37,19 @@ fn text_of(alloc: Global, term: &DraftTerm) -> Result<Option<Text>, AllocError>
 
 /// What prints a text with values.
 fn printed(text: Option<Text>, values: Option<Vec<Sum>>) -> Option<Top>
-    ensures { option_map seen_top result ≡ printed text (option_map (λ found. map seen_sum found.items) values) }
+    ensures { option_map seen_top result
+        ≡ printed text (option_map (λ found. map seen_sum found.items) values) }
 {
     match (text, values) {
-        (Some(text), Some(values)) => {
-            if has_directives(text.bytes(), values.len()) {
-                Some(Top::Print(text, values))
-            } else {
-                None
-            }
-        }
+        (Some(text), Some(values)) => Some(Top::Print(text, values)),
         _ => None,
     }
 }
 
 /// What prints by these arguments.
 fn print_of(alloc: Global, arguments: &[DraftTerm]) -> Result<Option<Top>, AllocError>
-    ensures { IfOk result (λ top. option_map seen_top top ≡ print_of (map seen_term arguments.now)) }
+    ensures { IfOk result (λ top. option_map seen_top top
+        ≡ print_of (map seen_term arguments.now)) }
 {
     match arguments.split_first() {
         Some((first, rest)) => {
@@ -112,15 +105,12 @@ fn defined(
     parameter: Option<&Token>,
     body: Option<Sum>,
 ) -> Result<Option<Top>, AllocError>
-    ensures { IfOk result (λ top. option_map seen_top top ≡ defined name.now (option_map seen_token parameter.entry) (option_map seen_sum body)) }
+    ensures { IfOk result (λ top. option_map seen_top top
+        ≡ defined name.now (option_map seen_token parameter.entry) (option_map seen_sum body)) }
 {
     match (parameter, body) {
         (Some(parameter), Some(body)) => {
-            if is_built_in(name) || is_built_in(parameter) {
-                Ok(None)
-            } else {
-                Ok(Some(Top::Method(name.copy()?, parameter.copy()?, body)))
-            }
+            Ok(Some(Top::Method(name.copy()?, parameter.copy()?, body)))
         }
         _ => Ok(None),
     }
@@ -128,11 +118,9 @@ fn defined(
 
 /// What a method of a generic function is.
 fn method_of(alloc: Global, method: &DraftMethod) -> Result<Option<Top>, AllocError>
-    ensures { IfOk result (λ top. option_map seen_top top ≡ method_in (seen_definition method.now)) }
+    ensures { IfOk result (λ top. option_map seen_top top
+        ≡ method_in (seen_definition method.now)) }
 {
-    if has(b"sealed", &method.adjectives) {
-        return Ok(None);
-    }
     let body = body_of(alloc, &method.code.body)?;
     defined(
         &method.generic,
@@ -141,30 +129,14 @@ fn method_of(alloc: Global, method: &DraftMethod) -> Result<Option<Top>, AllocEr
     )
 }
 
-/// What a draft is, wherever comparisons stand.
-fn form_of(alloc: Global, draft: &Draft) -> Result<Option<Top>, AllocError>
-    ensures { IfOk result (λ top. option_map seen_top top ≡ form_in (seen_draft draft.now)) }
+/// The form that a draft is, if it is one of those that run today: a `format-out` of a string
+/// literal and expressions, or a method of one parameter whose body is one expression.
+pub fn top_of(alloc: Global, draft: &Draft) -> Result<Option<Top>, AllocError>
+    ensures { IfOk result (λ top. option_map seen_top top ≡ top_in (seen_draft draft.now)) }
 {
     match draft {
         Draft::Top(DraftTop::Run(term)) => print_in(alloc, term),
         Draft::Method(method) => method_of(alloc, method),
         _ => Ok(None),
-    }
-}
-
-/// The form that a draft is, if it runs today: a `format-out` of a string literal and as many numbers as it
-/// has directives `%d`, or a method of one parameter whose body is one expression.
-pub fn top_of(alloc: Global, draft: &Draft) -> Result<Option<Top>, AllocError>
-    ensures { IfOk result (λ top. option_map seen_top top ≡ top_in (seen_draft draft.now)) }
-{
-    match form_of(alloc, draft)? {
-        Some(top) => {
-            if is_placed(&top) {
-                Ok(Some(top))
-            } else {
-                Ok(None)
-            }
-        }
-        None => Ok(None),
     }
 }

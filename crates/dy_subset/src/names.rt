@@ -3,13 +3,17 @@
 ghost use Rattle.std.specs.Prelude.{◌≡◌, IfOk, OnOk, map, option_map};
 ghost use Rattle.std.specs.Option.{option_copied};
 ghost use Rattle.dy_subset.specs.Forms.{seen_sum, seen_top, seen_reading, seen_row, seen_token};
-ghost use Rattle.dy_subset.specs.Names.{is_parameter, unfit_if, defined_name, methods_of, findings, told};
-ghost use Rattle.dy_subset.specs.Findings.{with_number, joined, use_found, sum_found, sums_found, top_found, with_method, row_found};
+ghost use Rattle.dy_subset.specs.Names.{is_parameter, is_word_of, is_reserved, unfit_if};
+ghost use Rattle.dy_subset.specs.Names.{defined_name, methods_of, findings, told};
+ghost use Rattle.dy_subset.specs.Findings.{with_number, joined, is_in, is_refused, use_found};
+ghost use Rattle.dy_subset.specs.Findings.{sum_found, sums_found, top_found, with_method};
+ghost use Rattle.dy_subset.specs.Findings.{row_found};
 
+use crate::operator::is_exported;
 use crate::row::{Reading, Row};
 use crate::sum::{Sum, Top};
 use dy_base::{Kind, NameTable, Place};
-use dy_tree::Token;
+use dy_tree::{Token, Word, Words};
 use std::alloc::{AllocError, Global};
 
 /// What is found of the names in a file.
@@ -65,10 +69,13 @@ fn use_found(
     token: &Token,
     is_called: bool,
 ) -> Result<Finding, AllocError>
-    ensures { IfOk result (λ found. found ≡ use_found methods.now (option_map seen_token parameter.entry) place token.now is_called) }
+    ensures { IfOk result (λ found. found
+        ≡ use_found methods.now (option_map seen_token parameter.entry) place token.now is_called) }
 {
     if is_parameter(parameter, token) {
         Ok(unfit_if(is_called, place))
+    } else if is_exported(token) {
+        Ok(Finding::Unfit(Kind::Syntax, place))
     } else if methods.get(token.text.bytes()).is_some() {
         Ok(unfit_if(!is_called, place))
     } else {
@@ -83,7 +90,8 @@ fn sum_found(
     place: Place,
     sum: &Sum,
 ) -> Result<Finding, AllocError>
-    ensures { IfOk result (λ found. found ≡ sum_found methods.now (option_map seen_token parameter.entry) place (seen_sum sum.now)) }
+    ensures { IfOk result (λ found. found
+        ≡ sum_found methods.now (option_map seen_token parameter.entry) place (seen_sum sum.now)) }
 {
     match sum {
         Sum::Number(_) => Ok(Finding::Fine),
@@ -121,19 +129,54 @@ fn sums_found(methods: &NameTable<u32>, place: Place, sums: &[Sum]) -> Result<Fi
     Ok(found)
 }
 
-/// What is found of a form that begins here, where methods of these names are defined in front of it.
+fn is_word_of(words: &[Word], name: &Token) -> bool
+    ensures { result ≡ is_word_of words.now name.now }
+{
+    for word in words {
+        if name.is_spelled(word.name.bytes()) {
+            return true;
+        }
+    }
+    false
+}
+
+/// Whether a name is one that a library exports, or a word of statements or definitions.
+fn is_reserved(words: &Words, name: &Token) -> bool
+    ensures { result ≡ is_reserved words.now name.now }
+{
+    is_exported(name) || is_word_of(words.items.as_slice(), name)
+}
+
+/// Whether a method of this name is defined in front.
+fn is_earlier(earlier: &NameTable<bool>, name: &Token) -> bool
+    ensures { result ≡ is_in earlier.now name.now.text }
+{
+    earlier.get(name.text.bytes()).is_some()
+}
+
+/// Whether a method of this name and this parameter is not taken yet.
+fn is_refused(words: &Words, earlier: &NameTable<bool>, name: &Token, parameter: &Token) -> bool
+    ensures { result ≡ is_refused words.now earlier.now name.now parameter.now }
+{
+    is_earlier(earlier, name) || is_reserved(words, name) || is_exported(parameter)
+}
+
+/// What is found of a form that begins here, where methods of these names are defined in front of
+/// it.
 fn top_found(
+    words: &Words,
     methods: &NameTable<u32>,
     earlier: &NameTable<bool>,
     place: Place,
     top: &Top,
 ) -> Result<Finding, AllocError>
-    ensures { IfOk result (λ found. found ≡ top_found methods.now earlier.now place (seen_top top.now)) }
+    ensures { IfOk result (λ found. found
+        ≡ top_found words.now methods.now earlier.now place (seen_top top.now)) }
 {
     match top {
         Top::Print(_, values) => sums_found(methods, place, values),
         Top::Method(name, parameter, body) => {
-            let definition = unfit_if(earlier.get(name.text.bytes()).is_some(), place);
+            let definition = unfit_if(is_refused(words, earlier, name, parameter), place);
             let uses = sum_found(methods, Some(parameter), place, body)?;
             Ok(joined(definition, uses))
         }
@@ -142,14 +185,16 @@ fn top_found(
 
 /// What is found of a row.
 fn row_found(
+    words: &Words,
     methods: &NameTable<u32>,
     earlier: &NameTable<bool>,
     row: &Row,
 ) -> Result<Finding, AllocError>
-    ensures { IfOk result (λ found. found ≡ row_found methods.now earlier.now (seen_row row.now)) }
+    ensures { IfOk result (λ found. found
+        ≡ row_found words.now methods.now earlier.now (seen_row row.now)) }
 {
     match &row.reading {
-        Reading::Fits(top) => top_found(methods, earlier, row.place, top),
+        Reading::Fits(top) => top_found(words, methods, earlier, row.place, top),
         Reading::Faulty(kind) => Ok(Finding::Unfit(*kind, row.place)),
     }
 }
@@ -174,22 +219,26 @@ fn add_method(alloc: Global, earlier: &mut NameTable<bool>, row: &Row) -> Result
     }
 }
 
-/// What is found of the rows of a file whose methods have these numbers: the first form that is refused,
-/// else the first name that has no binding. A form is refused as `Syntax` where it names a method by itself, calls
-/// its parameter, or defines a method of a name that has one; else only where it was read so.
+/// What is found of the rows of a file whose methods have these numbers: the first form that is
+/// refused, else the first name that has no binding. A form is refused as `Syntax` where it names a
+/// method by itself, calls its parameter, or uses a name that `dylan` or `io` exports otherwise
+/// than by an operator or as a form that prints; where it defines a method of a name that has one,
+/// that `dylan` or `io` exports, or that is one of the words, or whose parameter has a name that
+/// they export; else only where it was read so.
 pub fn rows_found(
     alloc: Global,
+    words: &Words,
     methods: &NameTable<u32>,
     rows: &[Row],
 ) -> Result<Finding, AllocError>
     requires { methods.now ≡ methods_of (map seen_row rows.now) }
-    ensures { IfOk result (λ found. found ≡ told (findings (map seen_row rows.now))) }
+    ensures { IfOk result (λ found. found ≡ told (findings words.now (map seen_row rows.now))) }
 {
     let mut found = Finding::Fine;
     let mut earlier = NameTable::new(alloc);
     let mut rest = rows;
     while let Some((row, others)) = rest.split_first() {
-        let other = row_found(methods, &earlier, row)?;
+        let other = row_found(words, methods, &earlier, row)?;
         found = joined(found, other);
         add_method(alloc, &mut earlier, row)?;
         rest = others;

@@ -1,7 +1,7 @@
 //! Names that the libraries bind.
 
 ghost use Rattle.std.specs.Prelude.{◌≡◌};
-ghost use Rattle.dy_subset.specs.Operators.{operator_of, is_built_in, is_arithmetic, is_comparison};
+ghost use Rattle.dy_subset.specs.Operators.{operator_of, is_exported};
 
 use crate::sum::Operator;
 use dy_tree::Token;
@@ -25,26 +25,9 @@ pub(crate) fn operator_of(token: &Token) -> Option<Operator>
     }
 }
 
-/// Whether the libraries bind this name, so that no method and no parameter may have it yet.
-pub(crate) fn is_built_in(token: &Token) -> bool
-    ensures { result ≡ is_built_in token.now }
+/// Whether `dylan` or `io` exports this name.
+pub(crate) fn is_exported(token: &Token) -> bool
+    ensures { result ≡ is_exported token.now }
 {
     operator_of(token).is_some() || token.is_spelled(b"format-out")
-}
-
-/// Whether an operator gives a number.
-pub(crate) fn is_arithmetic(operator: Operator) -> bool
-    ensures { result ≡ is_arithmetic operator }
-{
-    match operator {
-        Operator::Add | Operator::Subtract | Operator::Multiply => true,
-        Operator::Less | Operator::Equal => false,
-    }
-}
-
-/// Whether an operator gives a boolean.
-pub(crate) fn is_comparison(operator: Operator) -> bool
-    ensures { result ≡ is_comparison operator }
-{
-    !is_arithmetic(operator)
 }

@@ -1,9 +1,13 @@
 //! From forms to core terms.
 
 ghost use Rattle.std.specs.Prelude.{◌≡◌, map, length, IfOk, OnOk, []};
-ghost use Rattle.dy_runnable.specs.Core.{seen as seen_term, seen_generic, seen_method, seen_library, seen_program};
+ghost use Rattle.dy_runnable.specs.Core.{seen as seen_term, seen_generic, seen_method};
+ghost use Rattle.dy_runnable.specs.Core.{seen_library, seen_program};
 ghost use Rattle.dy_subset.specs.Forms.{seen_sum, seen_top, seen_row};
-ghost use Rattle.dy_subset.specs.Terms.{generic_id, function_of, method_generic, operation_term, site_of, call_of, choice_term, term_of, terms_of, print_term, generic_core, method_core, library_row, with_top, with_row, main_row, program_with};
+ghost use Rattle.dy_subset.specs.Terms.{generic_id, function_of, method_generic, operation_term};
+ghost use Rattle.dy_subset.specs.Terms.{site_of, call_of, choice_term, term_of, terms_of};
+ghost use Rattle.dy_subset.specs.Terms.{print_term, generic_core, method_core, library_row};
+ghost use Rattle.dy_subset.specs.Terms.{with_top, with_row, main_row, program_with};
 
 use crate::row::{Reading, Row};
 use crate::sum::{Operator, Sum, Top};
@@ -49,7 +53,8 @@ fn function_call(
     first: Term,
     second: Term,
 ) -> Result<Term, AllocError>
-    ensures { IfOk result (λ term. seen_term term ≡ call_of function (seen_term first) (seen_term second)) }
+    ensures { IfOk result (λ term. seen_term term
+        ≡ call_of function (seen_term first) (seen_term second)) }
 {
     let arguments = vec![in alloc; first, second]?;
     let function = Box::new(alloc, Term::Global(function))?;
@@ -58,7 +63,8 @@ fn function_call(
 
 /// A call of a generic function of the library `dylan`, by its row, that takes two arguments.
 fn generic_call(alloc: Global, row: u32, first: Term, second: Term) -> Result<Term, AllocError>
-    ensures { IfOk result (λ term. seen_term term ≡ site_of (generic_id 0 row) (seen_term first) (seen_term second)) }
+    ensures { IfOk result (λ term. seen_term term
+        ≡ site_of (generic_id 0 row) (seen_term first) (seen_term second)) }
 {
     Ok(Term::Site(generic_id(0, row), vec![in alloc; first, second]?))
 }
@@ -70,7 +76,8 @@ fn operation_term(
     left: Term,
     right: Term,
 ) -> Result<Term, AllocError>
-    ensures { IfOk result (λ term. seen_term term ≡ operation_term operator (seen_term left) (seen_term right)) }
+    ensures { IfOk result (λ term. seen_term term
+        ≡ operation_term operator (seen_term left) (seen_term right)) }
 {
     match operator {
         Operator::Add => generic_call(alloc, 0, left, right),
@@ -83,7 +90,8 @@ fn operation_term(
 
 /// A choice between two terms.
 fn choice_term(alloc: Global, test: Term, chosen: Term, other: Term) -> Result<Term, AllocError>
-    ensures { IfOk result (λ term. seen_term term ≡ choice_term (seen_term test) (seen_term chosen) (seen_term other)) }
+    ensures { IfOk result (λ term. seen_term term
+        ≡ choice_term (seen_term test) (seen_term chosen) (seen_term other)) }
 {
     let branches = vec![in alloc; (test, chosen)]?;
     let other = Box::new(alloc, other)?;
@@ -123,7 +131,8 @@ fn terms_of(
     text: &Text,
     sums: &[Sum],
 ) -> Result<Vec<Term>, AllocError>
-    ensures { IfOk result (λ terms. map seen_term terms.items ≡ terms_of methods.now text.now (map seen_sum sums.now)) }
+    ensures { IfOk result (λ terms. map seen_term terms.items
+        ≡ terms_of methods.now text.now (map seen_sum sums.now)) }
 {
     let text = Text::of(alloc, text.bytes())?;
     let mut terms = vec![in alloc; Term::Lit(Literal::Str(text))]?;
@@ -140,7 +149,8 @@ fn print_term(
     text: &Text,
     sums: &[Sum],
 ) -> Result<Term, AllocError>
-    ensures { IfOk result (λ term. seen_term term ≡ print_term methods.now text.now (map seen_sum sums.now)) }
+    ensures { IfOk result (λ term. seen_term term
+        ≡ print_term methods.now text.now (map seen_sum sums.now)) }
 {
     let arguments = terms_of(alloc, methods, text, sums)?;
     let function = Box::new(alloc, Term::Global(function_of(1)))?;
@@ -176,7 +186,8 @@ fn method_row(
     name: &[u8],
     body: &Sum,
 ) -> Result<MethodRow, AllocError>
-    ensures { IfOk result (λ row. seen_method row ≡ method_core methods.now name.now (seen_sum body.now)) }
+    ensures { IfOk result (λ row. seen_method row
+        ≡ method_core methods.now name.now (seen_sum body.now)) }
 {
     let lambda = Lambda {
         params: one_object(alloc)?,
@@ -208,7 +219,8 @@ fn add_top(
     library: &mut LibraryRow,
     top: &Top,
 ) -> Result<(), AllocError>
-    ensures { OnOk result (seen_library library.new ≡ with_top methods.now (seen_library library.old) (seen_top top.now)) }
+    ensures { OnOk result (seen_library library.new
+        ≡ with_top methods.now (seen_library library.old) (seen_top top.now)) }
 {
     match top {
         Top::Print(text, values) => {
@@ -232,7 +244,8 @@ fn add_row(
     library: &mut LibraryRow,
     row: &Row,
 ) -> Result<(), AllocError>
-    ensures { OnOk result (seen_library library.new ≡ with_row methods.now (seen_library library.old) (seen_row row.now)) }
+    ensures { OnOk result (seen_library library.new
+        ≡ with_row methods.now (seen_library library.old) (seen_row row.now)) }
 {
     match &row.reading {
         Reading::Fits(top) => add_top(alloc, methods, library, top),
@@ -247,7 +260,8 @@ fn main_row(
     methods: &NameTable<u32>,
     rows: &[Row],
 ) -> Result<LibraryRow, AllocError>
-    ensures { IfOk result (λ row. seen_library row ≡ main_row name.now methods.now (map seen_row rows.now)) }
+    ensures { IfOk result (λ row. seen_library row
+        ≡ main_row name.now methods.now (map seen_row rows.now)) }
 {
     let mut library = library_row(alloc, name, vec![in alloc; 0u32, 1]?)?;
     let mut rest = rows;
@@ -258,15 +272,16 @@ fn main_row(
     Ok(library)
 }
 
-/// The program of a library with these forms, whose methods have these numbers, and of the libraries
-/// that it uses, in load order: `dylan`, `io`, and the library itself.
+/// The program of a library with these forms, whose methods have these numbers, and of the
+/// libraries that it uses, in load order: `dylan`, `io`, and the library itself.
 pub fn program_of(
     alloc: Global,
     name: &[u8],
     methods: &NameTable<u32>,
     rows: &[Row],
 ) -> Result<Program, AllocError>
-    ensures { IfOk result (λ program. seen_program program ≡ program_with name.now methods.now (map seen_row rows.now)) }
+    ensures { IfOk result (λ program. seen_program program
+        ≡ program_with name.now methods.now (map seen_row rows.now)) }
 {
     let dylan = library_row(alloc, b"dylan", Vec::new(alloc))?;
     let io = library_row(alloc, b"io", vec![in alloc; 0u32]?)?;

@@ -1,0 +1,5 @@
+pub mod Firsts
+pub mod Rows
+pub mod Unnamed
+pub mod Links
+pub mod Members

@@ -1,0 +1,10 @@
+use Rattle.std.proofs.Common.{◌<◌, length, arith}
+use Rattle.dy_constructs.specs.Words.{adjective}
+use Rattle.dy_constructs.proofs.Firsts.{single_step}
+use Rattle.dy_constructs.proofs.forms.in_adjectives.Goals as goal
+
+pub loop-word-preserved : goal.loop-word-preserved
+loop-word-preserved c =
+    let items = c.deref-word-items.result.now in
+    let lt : c.loop-word.word-index < length items = omega arith in
+    single_step adjective items c.loop-word.word-index c.word-item.result lt c.word-item.is _ _ _ c.loop-word.invariant c.adjective.ensures c.or-found.ensures
