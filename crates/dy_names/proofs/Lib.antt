@@ -1,0 +1,3 @@
+pub mod Kept
+pub mod Naming
+pub mod Leaving

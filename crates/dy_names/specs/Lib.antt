@@ -1,0 +1,4 @@
+pub mod Naming
+pub mod Outside
+pub mod Places
+pub mod Tables
