@@ -1,5 +1,6 @@
 -- The table at the lists that a source tree holds.
-use Rattle.std.specs.Prelude.{Bool, false, codes, List, [], ◌∷◌, map, Option, Some, None, option_map}
+use Rattle.std.specs.Prelude.{Bool, false, codes, List, [], ◌∷◌, map, Option, Some, None}
+use Rattle.std.specs.Prelude.{option_map}
 use Rattle.std.specs.Global.{Vec, Box}
 use Rattle.dy_tree.specs.declared.token.Token.{Token}
 use Rattle.dy_tree.specs.declared.expression.Expression.{Expression}
@@ -17,13 +18,17 @@ use Rattle.dy_tree.specs.declared.expression.Parameters.{Parameters, out-Paramet
 use Rattle.dy_tree.specs.declared.expression.LocalMethod.{LocalMethod, out-LocalMethod}
 use Rattle.dy_tree.specs.Spelling.{is_spelled}
 use Rattle.dy_term.specs.Types.{CoreKey}
-use Rattle.dy_term.specs.Drafts.{Core, CoreItem, CoreArm, CoreLambda, CoreClause, CoreLimit, no_limit, a_limit, CoreTest, no_test, a_test, CoreCatch, MaybeCore, nothing, just}
+use Rattle.dy_term.specs.Drafts.{Core, CoreItem, CoreArm, CoreLambda, CoreClause, CoreLimit}
+use Rattle.dy_term.specs.Drafts.{no_limit, a_limit, CoreTest, no_test, a_test, CoreCatch, MaybeCore}
+use Rattle.dy_term.specs.Drafts.{nothing, just}
 use Rattle.dy_rules.specs.SeenTypes.{seen_variable}
 use Rattle.dy_drafts.specs.Parts.{bodied, false_core, first_or_false, limit_of}
 use Rattle.dy_drafts.specs.Shapes.{key_of, type_of}
 use Rattle.dy_rules.specs.Trees as source
-use Rattle.dy_rules.specs.Trees.{BlockClauses, block_clauses_of, afterwards_clause, cleanup_clause, exception_clause}
-use Rattle.dy_rules.specs.SeenForms.{seen_tree, seen_argument, seen_item, seen_clause, seen_for_clause, seen_parameters}
+use Rattle.dy_rules.specs.Trees.{BlockClauses, block_clauses_of, afterwards_clause, cleanup_clause}
+use Rattle.dy_rules.specs.Trees.{exception_clause}
+use Rattle.dy_rules.specs.SeenForms.{seen_tree, seen_argument, seen_item, seen_clause}
+use Rattle.dy_rules.specs.SeenForms.{seen_for_clause, seen_parameters}
 use Rattle.dy_desugar.specs.Table as table
 
 abbrev pub tree_core : Expression → Core
@@ -97,10 +102,15 @@ keys_all (Some keys) = (out-Keys keys).takes_all
 
 -- a body with its parameters
 abbrev pub lambda_core : Parameters → List Item → CoreLambda
-lambda_core row items = table.lambda_from (seen_parameters row) (parameter_defaults row) (body_core items)
+lambda_core row items = table.lambda_from (seen_parameters row) (parameter_defaults row)
+    (body_core items)
 
 abbrev pub method_core : LocalMethod → Token × CoreLambda
-method_core method = ((out-LocalMethod method).name, lambda_core (out-LocalMethod method).parameters (out-LocalMethod method).body.items)
+method_core method = (
+  (out-LocalMethod method).name,
+  lambda_core (out-LocalMethod method).parameters
+      (out-LocalMethod method).body.items,
+)
 
 -- the clauses of a block
 abbrev pub block_clauses : List BlockClause → BlockClauses
@@ -120,7 +130,8 @@ own_cleanup (exception_clause variable condition body) = nothing
 abbrev pub own_exception : source.BlockClause → Option CoreCatch
 own_exception (afterwards_clause body) = None
 own_exception (cleanup_clause body) = None
-own_exception (exception_clause variable condition body) = Some (record { variable = variable; condition = type_of condition; body = table.body_of body })
+own_exception (exception_clause variable condition body) =
+    Some (record { variable = variable; condition = type_of condition; body = table.body_of body })
 
 abbrev pub for_clause_core : ForClause → CoreClause
 for_clause_core clause = table.for_clause_of (seen_for_clause clause)
@@ -131,4 +142,5 @@ bound_core (Some limit) = a_limit (limit_of limit.word) (tree_core limit.bound)
 
 abbrev pub stop_core : Option (Box Stop) → CoreTest
 stop_core None = no_test
-stop_core (Some stop) = a_test (is_spelled (codes "until") stop.value.keyword) (tree_core stop.value.test)
+stop_core (Some stop) = a_test (is_spelled (codes "until") stop.value.keyword)
+    (tree_core stop.value.test)

@@ -2,7 +2,8 @@
 
 ghost use Rattle.std.specs.Prelude.{◌≡◌, ◌∷◌, map, IfOk};
 ghost use Rattle.dy_term.specs.Drafts.{seen_term, seen_pair, seen_arm, seen_option};
-ghost use Rattle.dy_desugar.specs.Lists.{tree_core, alternative_core, case_core, arm_core, maybe_boxed};
+ghost use Rattle.dy_desugar.specs.Lists.{tree_core, alternative_core, case_core, arm_core};
+ghost use Rattle.dy_desugar.specs.Lists.{maybe_boxed};
 
 use crate::bodies::body_of;
 use crate::expressions::term_of;
@@ -19,7 +20,8 @@ pub(crate) fn branches_of(
     test: DraftTerm,
     body: DraftTerm,
 ) -> Result<Vec<(DraftTerm, DraftTerm)>, AllocError>
-    ensures { IfOk result (λ branches. map seen_pair branches.items ≡ (seen_term test, seen_term body) ∷ map alternative_core alternatives.now.items) }
+    ensures { IfOk result (λ branches. map seen_pair branches.items
+        ≡ (seen_term test, seen_term body) ∷ map alternative_core alternatives.now.items) }
 {
     let mut branches = vec![in alloc; (test, body)]?;
     for alternative in alternatives {

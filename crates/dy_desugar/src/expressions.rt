@@ -86,7 +86,8 @@ fn operation_of(
     operator: &Token,
     right: DraftTerm,
 ) -> Result<DraftTerm, AllocError>
-    ensures { IfOk result (λ term. seen_term term ≡ table.operation_core precedence operator.now (seen_term left) (seen_term right)) }
+    ensures { IfOk result (λ term. seen_term term
+        ≡ table.operation_core precedence operator.now (seen_term left) (seen_term right)) }
 {
     match precedence {
         Precedence::Logical => logical(alloc, left, operator, right),
@@ -102,7 +103,9 @@ fn assignment_of(
     place: &Expression,
     value: DraftTerm,
 ) -> Result<DraftTerm, AllocError>
-    ensures { IfOk result (λ term. seen_term term ≡ table.assignment_of (seen_tree place.now) (table.core_of (seen_tree place.now)) (seen_term value)) }
+    ensures { IfOk result (λ term. seen_term term
+        ≡ table.assignment_of (seen_tree place.now) (table.core_of (seen_tree place.now))
+        (seen_term value)) }
 {
     match place {
         Expression::Name(token) => set_draft(alloc, token.copy()?, value),
@@ -140,7 +143,8 @@ fn set_call(
     operands: Vec<DraftTerm>,
     value: DraftTerm,
 ) -> Result<DraftTerm, AllocError>
-    ensures { IfOk result (λ term. seen_term term ≡ setting (setter_at name.now) (map seen_term operands.items) (seen_term value)) }
+    ensures { IfOk result (λ term. seen_term term
+        ≡ setting (setter_at name.now) (map seen_term operands.items) (seen_term value)) }
 {
     let setter = setter_at(alloc, name)?;
     setting(alloc, setter, operands, value)
@@ -149,7 +153,9 @@ fn set_call(
 /// The term of an assignment to what is no place.
 #[cycle(terms)]
 fn no_place_of(alloc: Global, place: &Expression, value: DraftTerm) -> Result<DraftTerm, AllocError>
-    ensures { IfOk result (λ term. seen_term term ≡ no_place (table.first_token (seen_tree place.now)) (table.core_of (seen_tree place.now)) (seen_term value)) }
+    ensures { IfOk result (λ term. seen_term term
+        ≡ no_place (table.first_token (seen_tree place.now)) (table.core_of (seen_tree place.now))
+        (seen_term value)) }
 {
     let token = first_token(place).copy()?;
     let found = term_of(alloc, place)?;
@@ -159,7 +165,8 @@ fn no_place_of(alloc: Global, place: &Expression, value: DraftTerm) -> Result<Dr
 /// The terms of arguments: a keyword and its value are two.
 #[cycle(terms)]
 fn arguments_of(alloc: Global, arguments: &Vec<Argument>) -> Result<Vec<DraftTerm>, AllocError>
-    ensures { IfOk result (λ terms. map seen_term terms.items ≡ flat_map argument_terms arguments.now.items) }
+    ensures { IfOk result (λ terms. map seen_term terms.items
+        ≡ flat_map argument_terms arguments.now.items) }
 {
     let mut terms = Vec::new(alloc);
     for argument in arguments {

@@ -7,7 +7,8 @@ ghost use Rattle.dy_term.specs.Drafts.{seen_term, seen_method, seen_lambda};
 ghost use Rattle.dy_rules.specs.SeenTypes.{seen_required};
 ghost use Rattle.dy_drafts.specs.Shapes as shapes;
 ghost use Rattle.dy_rules.specs.SeenForms.{seen_parameters};
-ghost use Rattle.dy_desugar.specs.Lists.{method_core, parameter_defaults, key_default, key_core, keys_core, keys_all};
+ghost use Rattle.dy_desugar.specs.Lists.{method_core, parameter_defaults, key_default, key_core};
+ghost use Rattle.dy_desugar.specs.Lists.{keys_core, keys_all};
 ghost use Rattle.dy_desugar.specs.Table as table;
 
 use crate::bodies::{body_of, or_false};
@@ -23,7 +24,8 @@ pub(crate) fn methods_of(
     alloc: Global,
     methods: &Vec<LocalMethod>,
 ) -> Result<Vec<(Token, DraftLambda)>, AllocError>
-    ensures { IfOk result (λ found. map seen_method found.items ≡ map method_core methods.now.items) }
+    ensures { IfOk result (λ found. map seen_method found.items
+        ≡ map method_core methods.now.items) }
 {
     let mut found = Vec::new(alloc);
     for method in methods {
@@ -47,7 +49,8 @@ fn method_of(alloc: Global, method: &LocalMethod) -> Result<(Token, DraftLambda)
 /// The defaults of the keyword parameters.
 #[cycle(terms)]
 pub fn defaults_of(alloc: Global, parameters: &Parameters) -> Result<Vec<DraftTerm>, AllocError>
-    ensures { IfOk result (λ defaults. map seen_term defaults.items ≡ parameter_defaults parameters.now) }
+    ensures { IfOk result (λ defaults. map seen_term defaults.items
+        ≡ parameter_defaults parameters.now) }
 {
     match &parameters.keys {
         None => Ok(Vec::new(alloc)),
@@ -58,7 +61,8 @@ pub fn defaults_of(alloc: Global, parameters: &Parameters) -> Result<Vec<DraftTe
 /// The defaults of keyword parameters, which are `#f` where none is written.
 #[cycle(terms)]
 fn keys_defaults(alloc: Global, keys: &Keys) -> Result<Vec<DraftTerm>, AllocError>
-    ensures { IfOk result (λ defaults. map seen_term defaults.items ≡ map key_default (out-Keys keys.now).keys.items) }
+    ensures { IfOk result (λ defaults. map seen_term defaults.items
+        ≡ map key_default (out-Keys keys.now).keys.items) }
 {
     let mut defaults = Vec::new(alloc);
     for key in &keys.keys {
@@ -73,7 +77,8 @@ fn required_in(
     alloc: Global,
     required: &Vec<Required>,
 ) -> Result<Vec<(Token, DraftType)>, AllocError>
-    ensures { IfOk result (λ found. map seen_typed found.items ≡ map shapes.required_of (map seen_required required.now.items)) }
+    ensures { IfOk result (λ found. map seen_typed found.items
+        ≡ map shapes.required_of (map seen_required required.now.items)) }
 {
     let mut found = Vec::new(alloc);
     for one in required {
@@ -95,7 +100,8 @@ fn keys_of(alloc: Global, keys: &Vec<Key>) -> Result<Vec<DraftKey>, AllocError>
 
 /// Keyword parameters, where `#key` is written.
 fn keywords_of(alloc: Global, keys: &Option<Keys>) -> Result<Option<Vec<DraftKey>>, AllocError>
-    ensures { IfOk result (λ found. option_map (λ keys. map seen_key keys.items) found ≡ keys_core keys.now) }
+    ensures { IfOk result (λ found. option_map (λ keys. map seen_key keys.items) found
+        ≡ keys_core keys.now) }
 {
     match keys {
         None => Ok(None),
@@ -116,7 +122,8 @@ fn takes_all(keys: &Option<Keys>) -> bool
 /// A parameter list, without the defaults.
 #[tactic(auto, using(crate::proofs::Parameters::at_parameters))]
 pub fn params_of(alloc: Global, parameters: &Parameters) -> Result<DraftParams, AllocError>
-    ensures { IfOk result (λ found. seen_params found ≡ table.params_of (seen_parameters parameters.now)) }
+    ensures { IfOk result (λ found. seen_params found
+        ≡ table.params_of (seen_parameters parameters.now)) }
 {
     let required = required_in(alloc, &parameters.required)?;
     let next = copy_maybe(&parameters.next)?;
@@ -134,7 +141,8 @@ pub fn params_of(alloc: Global, parameters: &Parameters) -> Result<DraftParams, 
 /// The results that a parameter list ends with.
 #[tactic(auto, using(crate::proofs::Parameters::at_results))]
 pub fn returned_of(alloc: Global, parameters: &Parameters) -> Result<DraftResults, AllocError>
-    ensures { IfOk result (λ found. seen_results found ≡ table.returned_of (seen_parameters parameters.now)) }
+    ensures { IfOk result (λ found. seen_results found
+        ≡ table.returned_of (seen_parameters parameters.now)) }
 {
     results_of(alloc, &parameters.results)
 }
@@ -146,7 +154,9 @@ pub fn lambda_from(
     defaults: Vec<DraftTerm>,
     body: DraftTerm,
 ) -> Result<DraftLambda, AllocError>
-    ensures { IfOk result (λ found. seen_lambda found ≡ table.lambda_from (seen_parameters parameters.now) (map seen_term defaults.items) (seen_term body)) }
+    ensures { IfOk result (λ found. seen_lambda found
+        ≡ table.lambda_from (seen_parameters parameters.now) (map seen_term defaults.items)
+        (seen_term body)) }
 {
     let params = params_of(alloc, parameters)?;
     let results = returned_of(alloc, parameters)?;

@@ -21,7 +21,9 @@ pub(crate) fn block_from(
     cleanup: Option<DraftTerm>,
     catches: Vec<DraftBlockClause>,
 ) -> Result<DraftTerm, AllocError>
-    ensures { IfOk result (λ term. seen_term term ≡ block exit.now (seen_term body) (seen_option afterwards) (seen_option cleanup) (catches_of (map seen_catch catches.items))) }
+    ensures { IfOk result (λ term. seen_term term
+        ≡ block exit.now (seen_term body) (seen_option afterwards) (seen_option cleanup)
+        (catches_of (map seen_catch catches.items))) }
 {
     let exit = copy_maybe(exit)?;
     block_draft(alloc, exit, body, afterwards, cleanup, catches)
@@ -33,7 +35,8 @@ pub(crate) fn afterwards_of(
     alloc: Global,
     clauses: &Vec<BlockClause>,
 ) -> Result<Option<DraftTerm>, AllocError>
-    ensures { IfOk result (λ term. seen_option term ≡ table.afterwards_of (block_clauses clauses.now.items)) }
+    ensures { IfOk result (λ term. seen_option term
+        ≡ table.afterwards_of (block_clauses clauses.now.items)) }
 {
     for clause in clauses {
         if let Some(term) = afterwards_in(alloc, clause)? {
@@ -61,7 +64,8 @@ pub(crate) fn cleanup_of(
     alloc: Global,
     clauses: &Vec<BlockClause>,
 ) -> Result<Option<DraftTerm>, AllocError>
-    ensures { IfOk result (λ term. seen_option term ≡ table.cleanup_of (block_clauses clauses.now.items)) }
+    ensures { IfOk result (λ term. seen_option term
+        ≡ table.cleanup_of (block_clauses clauses.now.items)) }
 {
     for clause in clauses {
         if let Some(term) = cleanup_in(alloc, clause)? {
@@ -89,7 +93,8 @@ pub(crate) fn exceptions_of(
     alloc: Global,
     clauses: &Vec<BlockClause>,
 ) -> Result<Vec<DraftBlockClause>, AllocError>
-    ensures { IfOk result (λ found. map seen_catch found.items ≡ table.exceptions_of (block_clauses clauses.now.items)) }
+    ensures { IfOk result (λ found. map seen_catch found.items
+        ≡ table.exceptions_of (block_clauses clauses.now.items)) }
 {
     let mut found = Vec::new(alloc);
     for clause in clauses {
@@ -103,7 +108,8 @@ pub(crate) fn exceptions_of(
 /// What an `exception` clause says.
 #[cycle(terms)]
 fn exception_in(alloc: Global, clause: &BlockClause) -> Result<Option<DraftBlockClause>, AllocError>
-    ensures { IfOk result (λ found. option_map seen_catch found ≡ own_exception (seen_clause clause.now)) }
+    ensures { IfOk result (λ found. option_map seen_catch found
+        ≡ own_exception (seen_clause clause.now)) }
 {
     match clause {
         BlockClause::Exception {

@@ -113,7 +113,8 @@ fn guarded_of(
     test: DraftTerm,
     body: DraftTerm,
 ) -> Result<DraftTerm, AllocError>
-    ensures { IfOk result (λ term. seen_term term ≡ table.guarded_core guard (seen_term test) (seen_term body)) }
+    ensures { IfOk result (λ term. seen_term term
+        ≡ table.guarded_core guard (seen_term test) (seen_term body)) }
 {
     match guard {
         Guard::Unless => unless_draft(alloc, test, body),

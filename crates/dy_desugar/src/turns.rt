@@ -17,7 +17,8 @@ pub(crate) fn clauses_of(
     alloc: Global,
     clauses: &Vec<ForClause>,
 ) -> Result<Vec<DraftForClause>, AllocError>
-    ensures { IfOk result (λ found. map seen_clause found.items ≡ map for_clause_core clauses.now.items) }
+    ensures { IfOk result (λ found. map seen_clause found.items
+        ≡ map for_clause_core clauses.now.items) }
 {
     let mut found = Vec::new(alloc);
     for clause in clauses {

@@ -1,4 +1,5 @@
--- Lists and vectors of literals, as the source holds them, in the core (DRM 3, "Literal constants").
+-- Lists and vectors of literals, as the source holds them, in the core (DRM 3, "Literal
+-- constants").
 use Rattle.std.specs.Prelude.{List, map, Option}
 use Rattle.std.specs.Option.{option_map}
 use Rattle.dy_tree.specs.declared.types.ConstantForm.{ConstantForm}

@@ -1,6 +1,7 @@
--- Literals, types and parameter lists of the source, in the core (DRM 3, "Literal constants"; DRM 4, "Types"; DRM 6,
--- "Parameter lists").
-use Rattle.std.specs.Prelude.{ℕ, ℤ, pos, negsuc, Bool, true, false, ◌||◌, List, [], ◌∷◌, map, codes, Option, Some, None, if◌then◌else◌}
+-- Literals, types and parameter lists of the source, in the core (DRM 3, "Literal constants"; DRM
+-- 4, "Types"; DRM 6, "Parameter lists").
+use Rattle.std.specs.Prelude.{ℕ, ℤ, pos, negsuc, Bool, true, false, ◌||◌, List, [], ◌∷◌, map, codes}
+use Rattle.std.specs.Prelude.{Option, Some, None, if◌then◌else◌}
 use Rattle.std.specs.Option.{option_map}
 use Rattle.std.specs.Int.{int_wrapping_neg, w64}
 use Rattle.dy_base.specs.Folding.{folded}
@@ -8,16 +9,22 @@ use Rattle.dy_tree.specs.declared.token.Token.{Token}
 use Rattle.dy_tree.specs.declared.token.TokenKind.TheVariants as kinds
 use Rattle.dy_tree.specs.declared.types.IntegerForm.{IntegerForm}
 use Rattle.dy_tree.specs.declared.types.LiteralForm.{LiteralForm}
-use Rattle.dy_tree.specs.declared.types.LiteralForm.TheVariants.{Int, Char, Str, Bool as Truth, Symbol}
+use Rattle.dy_tree.specs.declared.types.LiteralForm.TheVariants.{Int, Char, Str, Bool as Truth}
+use Rattle.dy_tree.specs.declared.types.LiteralForm.TheVariants.{Symbol}
 use Rattle.dy_tree.specs.Spelling.{is_spelled}
 use Rattle.dy_rules.specs.ConstantTrees as source
 use Rattle.dy_rules.specs.Types as source_types
-use Rattle.dy_rules.specs.Types.{Single, literal_single, empty_single, name_single, Bound, TypeTree, named_type, singleton_type, union_type, limited_type, TypeTrees, VariableTree, TargetTree, one_target, several, RequiredTree, required_variable, required_single, ResultTree, one_result, several_results}
+use Rattle.dy_rules.specs.Types.{Single, literal_single, empty_single, name_single, Bound, TypeTree}
+use Rattle.dy_rules.specs.Types.{named_type, singleton_type, union_type, limited_type, TypeTrees}
+use Rattle.dy_rules.specs.Types.{VariableTree, TargetTree, one_target, several, RequiredTree}
+use Rattle.dy_rules.specs.Types.{required_variable, required_single, ResultTree, one_result}
+use Rattle.dy_rules.specs.Types.{several_results}
 use Rattle.dy_term.specs.declared.draft.Local.{Local}
 use Rattle.dy_term.specs.declared.draft.Local.TheVariants.{Named}
 use Rattle.dy_term.specs.declared.literal.Literal.{Literal}
 use Rattle.dy_term.specs.declared.literal.Literal as core
-use Rattle.dy_term.specs.Types.{CoreType, object, named, single, single_name, union, range, CoreTypes, no_type, type_and, CoreKey, CoreParams, CoreResults}
+use Rattle.dy_term.specs.Types.{CoreType, object, named, single, single_name, union, range}
+use Rattle.dy_term.specs.Types.{CoreTypes, no_type, type_and, CoreKey, CoreParams, CoreResults}
 
 -- whether one of the adjectives of a definition or a slot has this text
 abbrev pub has : List ℕ → List Token → Bool
@@ -81,14 +88,16 @@ single_of told (name_single token) = single_name told token
 -- the number of the first bound with this keyword, or the one that is the limit without it
 abbrev pub bound_of : List ℕ → ℤ → List Bound → ℤ
 bound_of text other [] = other
-bound_of text other (bound ∷ bounds) = if is_spelled text bound.keyword then integer_of bound.number else bound_of text other bounds
+bound_of text other (bound ∷ bounds) =
+    if is_spelled text bound.keyword then integer_of bound.number else bound_of text other bounds
 
 abbrev mutual
   pub type_of : TypeTree → CoreType
   type_of (named_type token) = named token
   type_of (singleton_type word value) = single_of word value
   type_of (union_type word types) = union word (types_of types)
-  type_of (limited_type word class bounds) = range word (bound_of (codes "min") least bounds) (bound_of (codes "max") greatest bounds)
+  type_of (limited_type word class bounds) =
+      range word (bound_of (codes "min") least bounds) (bound_of (codes "max") greatest bounds)
 
   pub types_of : TypeTrees → CoreTypes
   types_of source_types.no_type = no_type
@@ -131,8 +140,10 @@ required_of (required_single token value) = (token, only_of value)
 -- Without a list of results there may be any values.
 abbrev pub results_of : Option ResultTree → CoreResults
 results_of None = record { required = []; rest = Some object }
-results_of (Some (one_result variable)) = record { required = declared_of variable ∷ []; rest = None }
-results_of (Some (several_results variables rest)) = record { required = map declared_of variables; rest = option_map declared_of rest }
+results_of (Some (one_result variable)) =
+    record { required = declared_of variable ∷ []; rest = None }
+results_of (Some (several_results variables rest)) =
+    record { required = map declared_of variables; rest = option_map declared_of rest }
 
 -- the keyword of a keyword parameter, which is the variable's name where none is written
 abbrev pub keyword_of : Option Token → VariableTree → Token
@@ -140,4 +151,8 @@ keyword_of None variable = variable.variable
 keyword_of (Some symbol) variable = symbol
 
 abbrev pub key_of : Option Token → VariableTree → CoreKey
-key_of symbol variable = record { keyword = keyword_of symbol variable; variable = variable.variable; declared = declared_of variable }
+key_of symbol variable = record {
+  keyword = keyword_of symbol variable;
+  variable = variable.variable;
+  declared = declared_of variable;
+}

@@ -41,7 +41,8 @@ fn constants_of(alloc: Global, forms: &Vec<ConstantForm>) -> Result<Items<Litera
 /// The literal behind a dot, if there is one.
 #[cycle(constants)]
 fn tail_of(alloc: Global, tail: &Option<Box<ConstantForm>>) -> Result<Option<Literal>, AllocError>
-    ensures { IfOk result (λ literal. literal ≡ last_in (option_map (λ form. form.value) tail.now)) }
+    ensures { IfOk result (λ literal. literal
+        ≡ last_in (option_map (λ form. form.value) tail.now)) }
 {
     match tail {
         None => Ok(None),
@@ -70,7 +71,8 @@ pub fn list_of(
     items: &Vec<ConstantForm>,
     tail: &Option<ConstantForm>,
 ) -> Result<Literal, AllocError>
-    ensures { IfOk result (λ made. made ≡ list_of (literals_in items.now.items) (last_in tail.now)) }
+    ensures { IfOk result (λ made. made
+        ≡ list_of (literals_in items.now.items) (last_in tail.now)) }
 {
     let items = constants_of(alloc, items)?;
     match tail {

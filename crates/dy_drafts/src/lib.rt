@@ -1,4 +1,5 @@
-//! Drafts of what leads back to no expression, and drafts that are put together from the drafts of their parts.
+//! Drafts of what leads back to no expression, and drafts that are put together from the drafts of
+//! their parts.
 #![tactic(auto)]
 
 mod constants;

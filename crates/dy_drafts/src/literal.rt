@@ -44,7 +44,8 @@ pub fn literal_of(alloc: Global, form: &LiteralForm) -> Result<Literal, AllocErr
 
 /// The keyword of an argument, which is a symbol.
 pub fn keyword_of(alloc: Global, keyword: &Token) -> Result<DraftTerm, AllocError>
-    ensures { IfOk result (λ term. seen_term term ≡ literal (Literal.Symbol (folded keyword.now.text))) }
+    ensures { IfOk result (λ term. seen_term term
+        ≡ literal (Literal.Symbol (folded keyword.now.text))) }
 {
     let name = fold(alloc, keyword.text.bytes())?;
     Ok(DraftTerm::Lit(Literal::Symbol(name)))

@@ -17,7 +17,8 @@ pub fn call_named(
     token: Token,
     arguments: Vec<DraftTerm>,
 ) -> Result<DraftTerm, AllocError>
-    ensures { IfOk result (λ term. seen_term term ≡ call_named token (map seen_term arguments.items)) }
+    ensures { IfOk result (λ term. seen_term term
+        ≡ call_named token (map seen_term arguments.items)) }
 {
     call_draft(alloc, DraftTerm::Name(token), arguments)
 }
@@ -35,7 +36,8 @@ fn call_with_two(
     first: DraftTerm,
     second: DraftTerm,
 ) -> Result<DraftTerm, AllocError>
-    ensures { IfOk result (λ term. seen_term term ≡ call_named token (seen_term first ∷ seen_term second ∷ [])) }
+    ensures { IfOk result (λ term. seen_term term
+        ≡ call_named token (seen_term first ∷ seen_term second ∷ [])) }
 {
     let arguments = vec![in alloc; first, second]?;
     call_named(alloc, token, arguments)
@@ -48,7 +50,8 @@ pub fn operation(
     operator: &Token,
     right: DraftTerm,
 ) -> Result<DraftTerm, AllocError>
-    ensures { IfOk result (λ term. seen_term term ≡ call_named operator.now (seen_term left ∷ seen_term right ∷ [])) }
+    ensures { IfOk result (λ term. seen_term term
+        ≡ call_named operator.now (seen_term left ∷ seen_term right ∷ [])) }
 {
     let operator = operator.copy()?;
     call_with_two(alloc, operator, left, right)
@@ -61,7 +64,9 @@ pub fn logical(
     operator: &Token,
     right: DraftTerm,
 ) -> Result<DraftTerm, AllocError>
-    ensures { IfOk result (λ term. seen_term term ≡ if is_spelled (codes "&") operator.now then and (seen_term left) (seen_term right) else or (seen_term left) (seen_term right)) }
+    ensures { IfOk result (λ term. seen_term term
+        ≡ if is_spelled (codes "&") operator.now then and (seen_term left) (seen_term right)
+        else or (seen_term left) (seen_term right)) }
 {
     if operator.is_spelled(b"&") {
         and_draft(alloc, left, right)
@@ -83,7 +88,8 @@ fn unary_name(alloc: Global, operator: &Token) -> Result<Token, AllocError>
 
 /// `-` or `~`.
 pub fn unary(alloc: Global, operator: &Token, operand: DraftTerm) -> Result<DraftTerm, AllocError>
-    ensures { IfOk result (λ term. seen_term term ≡ call_named (unary_name operator.now) (seen_term operand ∷ [])) }
+    ensures { IfOk result (λ term. seen_term term
+        ≡ call_named (unary_name operator.now) (seen_term operand ∷ [])) }
 {
     let name = unary_name(alloc, operator)?;
     call_with_one(alloc, name, operand)
@@ -96,7 +102,9 @@ pub fn element(
     opener: &Token,
     index: DraftTerm,
 ) -> Result<DraftTerm, AllocError>
-    ensures { IfOk result (λ term. seen_term term ≡ call_named (name_at (codes "element") opener.now) (seen_term object ∷ seen_term index ∷ [])) }
+    ensures { IfOk result (λ term. seen_term term
+        ≡ call_named (name_at (codes "element") opener.now)
+        (seen_term object ∷ seen_term index ∷ [])) }
 {
     let name = name_at(alloc, b"element", opener)?;
     call_with_two(alloc, name, object, index)

@@ -54,7 +54,8 @@ pub fn key_of(
 
 /// The types of variables.
 fn declared_in(alloc: Global, variables: &Vec<Variable>) -> Result<Vec<DraftType>, AllocError>
-    ensures { IfOk result (λ types. map seen_type types.items ≡ map declared_of (map seen_variable variables.now.items)) }
+    ensures { IfOk result (λ types. map seen_type types.items
+        ≡ map declared_of (map seen_variable variables.now.items)) }
 {
     let mut types = Vec::new(alloc);
     for variable in variables {
@@ -65,7 +66,8 @@ fn declared_in(alloc: Global, variables: &Vec<Variable>) -> Result<Vec<DraftType
 
 /// The type of further results, if there may be some.
 fn further(alloc: Global, rest: &Option<Variable>) -> Result<Option<DraftType>, AllocError>
-    ensures { IfOk result (λ found. option_map seen_type found ≡ option_map declared_of (option_map seen_variable rest.now)) }
+    ensures { IfOk result (λ found. option_map seen_type found
+        ≡ option_map declared_of (option_map seen_variable rest.now)) }
 {
     match rest {
         None => Ok(None),
@@ -75,7 +77,8 @@ fn further(alloc: Global, rest: &Option<Variable>) -> Result<Option<DraftType>, 
 
 /// Results. Without a list of them there may be any.
 pub fn results_of(alloc: Global, results: &Option<Results>) -> Result<DraftResults, AllocError>
-    ensures { IfOk result (λ found. seen_draft found ≡ results_of (option_map seen_results results.now)) }
+    ensures { IfOk result (λ found. seen_draft found
+        ≡ results_of (option_map seen_results results.now)) }
 {
     match results {
         None => Ok(DraftResults {

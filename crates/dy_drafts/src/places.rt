@@ -4,7 +4,8 @@ ghost use Rattle.std.specs.Prelude.{◌≡◌, ◌<◌, ◌^◌, ◌∷◌, [], 
 ghost use Rattle.dy_term.specs.Types.{seen_typed};
 ghost use Rattle.dy_term.specs.Drafts.{hidden, seen_term, seen_item};
 ghost use Rattle.dy_drafts.specs.Shapes.{name_at};
-ghost use Rattle.dy_drafts.specs.Parts.{call_named, hidden_terms, hidden_locals, hide, hide_from, setting, setter_at, with_rest};
+ghost use Rattle.dy_drafts.specs.Parts.{call_named, hidden_terms, hidden_locals, hide, hide_from};
+ghost use Rattle.dy_drafts.specs.Parts.{setting, setter_at, with_rest};
 
 use crate::names::{name_at, setter_at};
 use crate::operators::call_named;
@@ -14,7 +15,8 @@ use std::alloc::{AllocError, Global};
 
 /// Adds the hidden locals below a number.
 fn push_hidden(terms: &mut Vec<DraftTerm>, count: usize) -> Result<(), AllocError>
-    ensures { OnOk result (map seen_term terms.new.items ≡ map seen_term terms.old.items ++ hidden_terms count) }
+    ensures { OnOk result (map seen_term terms.new.items
+        ≡ map seen_term terms.old.items ++ hidden_terms count) }
 {
     for number in 0..count {
         terms.push(DraftTerm::Hidden(number))?;
@@ -43,7 +45,8 @@ fn hide(alloc: Global, number: usize, term: DraftTerm) -> Result<DraftItem, Allo
 
 /// Hidden locals that take the values of terms.
 fn hide_all(alloc: Global, terms: Vec<DraftTerm>) -> Result<Vec<DraftItem>, AllocError>
-    ensures { IfOk result (λ items. map seen_item items.items ≡ hide_from 0 (map seen_term terms.items)) }
+    ensures { IfOk result (λ items. map seen_item items.items
+        ≡ hide_from 0 (map seen_term terms.items)) }
 {
     let mut items = Vec::new(alloc);
     for term in terms {
@@ -53,9 +56,11 @@ fn hide_all(alloc: Global, terms: Vec<DraftTerm>) -> Result<Vec<DraftItem>, Allo
     Ok(items)
 }
 
-/// A call of a setter on the hidden locals below a number, and that of the number, which is the new value.
+/// A call of a setter on the hidden locals below a number, and that of the number, which is the new
+/// value.
 fn call_setter(alloc: Global, setter: Token, count: usize) -> Result<DraftTerm, AllocError>
-    ensures { IfOk result (λ term. seen_term term ≡ call_named setter (hidden count ∷ hidden_terms count)) }
+    ensures { IfOk result (λ term. seen_term term
+        ≡ call_named setter (hidden count ∷ hidden_terms count)) }
 {
     let mut arguments = vec![in alloc; DraftTerm::Hidden(count)]?;
     push_hidden(&mut arguments, count)?;
@@ -69,7 +74,8 @@ pub fn setting(
     operands: Vec<DraftTerm>,
     value: DraftTerm,
 ) -> Result<DraftTerm, AllocError>
-    ensures { IfOk result (λ term. seen_term term ≡ setting setter (map seen_term operands.items) (seen_term value)) }
+    ensures { IfOk result (λ term. seen_term term
+        ≡ setting setter (map seen_term operands.items) (seen_term value)) }
 {
     let count = operands.len();
     let mut items = hide_all(alloc, operands)?;
@@ -87,7 +93,9 @@ pub fn set_element(
     index: DraftTerm,
     value: DraftTerm,
 ) -> Result<DraftTerm, AllocError>
-    ensures { IfOk result (λ term. seen_term term ≡ setting (name_at (codes "element-setter") opener.now) (seen_term object ∷ seen_term index ∷ []) (seen_term value)) }
+    ensures { IfOk result (λ term. seen_term term
+        ≡ setting (name_at (codes "element-setter") opener.now)
+        (seen_term object ∷ seen_term index ∷ []) (seen_term value)) }
 {
     let setter = name_at(alloc, b"element-setter", opener)?;
     let operands = vec![in alloc; object, index]?;
@@ -101,15 +109,16 @@ pub fn set_member(
     name: &Token,
     value: DraftTerm,
 ) -> Result<DraftTerm, AllocError>
-    ensures { IfOk result (λ term. seen_term term ≡ setting (setter_at name.now) (seen_term object ∷ []) (seen_term value)) }
+    ensures { IfOk result (λ term. seen_term term
+        ≡ setting (setter_at name.now) (seen_term object ∷ []) (seen_term value)) }
 {
     let setter = setter_at(alloc, name)?;
     let operands = vec![in alloc; object]?;
     setting(alloc, setter, operands, value)
 }
 
-/// The first values of a term, so many, and then one vector of the others. They are fewer than 2^63,
-/// as the variables of any list are.
+/// The first values of a term, so many, and then one vector of the others. They are fewer than
+/// 2^63, as the variables of any list are.
 pub fn with_rest(alloc: Global, count: usize, term: DraftTerm) -> Result<DraftTerm, AllocError>
     requires { count < 2 ^ 63 }
     ensures { IfOk result (λ found. seen_term found ≡ with_rest count (seen_term term)) }

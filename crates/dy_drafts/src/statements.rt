@@ -2,7 +2,8 @@
 
 ghost use Rattle.std.specs.Prelude.{◌≡◌, map, IfOk};
 ghost use Rattle.dy_term.specs.Drafts.{loop, seen_term};
-ghost use Rattle.dy_drafts.specs.Parts.{false_core, true_core, choose, not_core, limit_of, first_or_false};
+ghost use Rattle.dy_drafts.specs.Parts.{false_core, true_core, choose, not_core, limit_of};
+ghost use Rattle.dy_drafts.specs.Parts.{first_or_false};
 
 use dy_term::{DraftTerm, Limit, Literal, cond_draft, loop_draft};
 use dy_tree::Token;
@@ -29,7 +30,8 @@ pub fn choose(
     chosen: DraftTerm,
     other: DraftTerm,
 ) -> Result<DraftTerm, AllocError>
-    ensures { IfOk result (λ term. seen_term term ≡ choose (seen_term test) (seen_term chosen) (seen_term other)) }
+    ensures { IfOk result (λ term. seen_term term
+        ≡ choose (seen_term test) (seen_term chosen) (seen_term other)) }
 {
     let branches = vec![in alloc; (test, chosen)]?;
     cond_draft(alloc, branches, other)
@@ -48,7 +50,8 @@ pub fn unless_draft(
     test: DraftTerm,
     body: DraftTerm,
 ) -> Result<DraftTerm, AllocError>
-    ensures { IfOk result (λ term. seen_term term ≡ choose (seen_term test) false_core (seen_term body)) }
+    ensures { IfOk result (λ term. seen_term term
+        ≡ choose (seen_term test) false_core (seen_term body)) }
 {
     choose(alloc, test, false_draft(), body)
 }
@@ -62,7 +65,8 @@ pub fn while_draft(alloc: Global, test: DraftTerm, body: DraftTerm) -> Result<Dr
 
 /// `until (test) body end`
 pub fn until_draft(alloc: Global, test: DraftTerm, body: DraftTerm) -> Result<DraftTerm, AllocError>
-    ensures { IfOk result (λ term. seen_term term ≡ loop (not_core (seen_term test)) (seen_term body)) }
+    ensures { IfOk result (λ term. seen_term term
+        ≡ loop (not_core (seen_term test)) (seen_term body)) }
 {
     let test = negated(alloc, test)?;
     loop_draft(alloc, test, body)

@@ -67,7 +67,8 @@ pub fn type_of(alloc: Global, form: &TypeForm) -> Result<DraftType, AllocError>
 /// The parts of a union.
 #[cycle(types)]
 fn types_of(alloc: Global, forms: &Vec<TypeForm>) -> Result<Vec<DraftType>, AllocError>
-    ensures { IfOk result (λ types. map seen_draft types.items ≡ map (λ form. type_of (seen_type form)) forms.now.items) }
+    ensures { IfOk result (λ types. map seen_draft types.items
+        ≡ map (λ form. type_of (seen_type form)) forms.now.items) }
 {
     let mut types = Vec::new(alloc);
     for form in forms {
@@ -82,7 +83,8 @@ pub fn declared_or(
     other: DraftType,
     form: &Option<TypeForm>,
 ) -> Result<DraftType, AllocError>
-    ensures { IfOk result (λ found. seen_draft found ≡ declared_or (seen_draft other) (option_map seen_type form.now)) }
+    ensures { IfOk result (λ found. seen_draft found
+        ≡ declared_or (seen_draft other) (option_map seen_type form.now)) }
 {
     match form {
         None => Ok(other),

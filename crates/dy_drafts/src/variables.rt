@@ -40,7 +40,8 @@ fn locals_in(
     alloc: Global,
     variables: &Vec<Variable>,
 ) -> Result<Vec<(Local, DraftType)>, AllocError>
-    ensures { IfOk result (λ locals. map seen_typed locals.items ≡ map local_of (map seen_variable variables.now.items)) }
+    ensures { IfOk result (λ locals. map seen_typed locals.items
+        ≡ map local_of (map seen_variable variables.now.items)) }
 {
     let mut locals = Vec::new(alloc);
     for variable in variables {
@@ -51,7 +52,8 @@ fn locals_in(
 
 /// What a `let` binds.
 pub fn locals_of(alloc: Global, target: &Target) -> Result<Vec<(Local, DraftType)>, AllocError>
-    ensures { IfOk result (λ locals. map seen_typed locals.items ≡ locals_of (seen_target target.now)) }
+    ensures { IfOk result (λ locals. map seen_typed locals.items
+        ≡ locals_of (seen_target target.now)) }
 {
     match target {
         Target::One(variable) => {

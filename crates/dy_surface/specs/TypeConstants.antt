@@ -1,5 +1,7 @@
--- Expressions that are written as types are, and so make their constant stand for a type (own; the forms of DRM 4, "Types").
-use Rattle.std.specs.Prelude.{ℕ, ℤ, Bool, false, List, [], ◌∷◌, codes, Option, Some, None, if◌then◌else◌}
+-- Expressions that are written as types are, and so make their constant stand for a type (own; the
+-- forms of DRM 4, "Types").
+use Rattle.std.specs.Prelude.{ℕ, ℤ, Bool, false, List, [], ◌∷◌, codes, Option, Some, None}
+use Rattle.std.specs.Prelude.{if◌then◌else◌}
 use Rattle.dy_tree.specs.declared.token.Token.{Token}
 use Rattle.dy_tree.specs.declared.types.LiteralForm.TheVariants as forms
 use Rattle.dy_tree.specs.Spelling.{is_spelled, is_word}
@@ -14,7 +16,8 @@ use Rattle.dy_desugar.specs.Table.{name_in}
 -- `singleton(value)`: of a literal, of `#()`, or of the class that a name means
 abbrev pub only_value : Token → Tree → Option CoreType
 only_value word (source.literal form) = Some (single (literal_of form))
-only_value word (source.list opener items last) = if is_nil items last then Some (single constants.Nil) else None
+only_value word (source.list opener items last) =
+    if is_nil items last then Some (single constants.Nil) else None
 only_value word (source.name token) = Some (single_name word token)
 only_value word _ = None
 
@@ -47,11 +50,13 @@ either_type (Some found) other = Some found
 either_type None other = other
 
 abbrev pub bounded_by : Token → Argument → Option CoreType
-bounded_by word one = either_type (between word (limit_in (codes "min") one) (Some greatest)) (between word (Some least) (limit_in (codes "max") one))
+bounded_by word one = either_type (between word (limit_in (codes "min") one) (Some greatest))
+    (between word (Some least) (limit_in (codes "max") one))
 
 abbrev pub bounded_by_both : Token → Argument → Argument → Option CoreType
 bounded_by_both word one other =
-    either_type (between word (limit_in (codes "min") one) (limit_in (codes "max") other)) (between word (limit_in (codes "min") other) (limit_in (codes "max") one))
+    either_type (between word (limit_in (codes "min") one) (limit_in (codes "max") other))
+    (between word (limit_in (codes "min") other) (limit_in (codes "max") one))
 
 -- each of the bounds once at most, in either order
 abbrev pub bounded : Token → List Argument → Option CoreType
@@ -73,7 +78,8 @@ abbrev pub limited_type : Token → List Argument → Option CoreType
 limited_type word [] = None
 limited_type word (class ∷ bounds) = if is_integer_class class then bounded word bounds else None
 
--- a call of one of the three words, from its arguments, and from the types that they are where all are types
+-- a call of one of the three words, from its arguments, and from the types that they are where all
+-- are types
 abbrev pub form_type : Token → List Argument → Option (List CoreType) → Option CoreType
 form_type word arguments types =
     if is_word (codes "singleton") word then singleton_type word arguments
@@ -93,7 +99,8 @@ both_types _ _ = None
 abbrev mutual
   pub type_in : Tree → Option CoreType
   type_in (source.name token) = Some (named token)
-  type_in (source.call (source.name word) arguments) = form_type word (listed arguments) (types_in arguments)
+  type_in (source.call (source.name word) arguments) =
+      form_type word (listed arguments) (types_in arguments)
   type_in _ = None
 
   -- the types that arguments are, where all are types

@@ -4,7 +4,8 @@ ghost use Rattle.std.specs.Prelude.{◌≡◌, map, true, IfOk};
 ghost use Rattle.dy_rules.specs.Types as source;
 ghost use Rattle.dy_rules.specs.Trees.{body_of};
 ghost use Rattle.dy_rules.specs.SeenTypes.{seen_variable, seen_target, seen_type as type_tree};
-ghost use Rattle.dy_rules.specs.SeenForms.{seen_form, seen_items, seen_parameters, seen_slot, seen_tree};
+ghost use Rattle.dy_rules.specs.SeenForms.{seen_form, seen_items, seen_parameters, seen_slot};
+ghost use Rattle.dy_rules.specs.SeenForms.{seen_tree};
 ghost use Rattle.dy_term.specs.Types.{seen_type, seen_typed};
 ghost use Rattle.dy_term.specs.Drafts.{seen_term, seen_lambda};
 ghost use Rattle.dy_term.specs.Rows.{variable_row, top_term, type_constant, seen_draft, seen_top};
@@ -85,7 +86,9 @@ fn class_of(
     superclasses: &Vec<Token>,
     slots: &Vec<Slot>,
 ) -> Result<Draft, AllocError>
-    ensures { IfOk result (λ draft. seen_draft draft ≡ spec.class_of adjectives.now.items name.now superclasses.now.items (map seen_slot slots.now.items)) }
+    ensures { IfOk result (λ draft. seen_draft draft
+        ≡ spec.class_of adjectives.now.items name.now superclasses.now.items
+        (map seen_slot slots.now.items)) }
 {
     Ok(Draft::Class(DraftClass {
         adjectives: copy_all(alloc, adjectives)?,
@@ -97,7 +100,8 @@ fn class_of(
 
 /// A constant, which stands for a type where its value is written as one.
 fn constant_of(alloc: Global, target: &Target, value: &Expression) -> Result<Draft, AllocError>
-    ensures { IfOk result (λ draft. seen_draft draft ≡ spec.constant_of (seen_target target.now) (seen_tree value.now)) }
+    ensures { IfOk result (λ draft. seen_draft draft
+        ≡ spec.constant_of (seen_target target.now) (seen_tree value.now)) }
 {
     match target {
         Target::One(variable) => match constant_type(alloc, value)? {
@@ -110,7 +114,9 @@ fn constant_of(alloc: Global, target: &Target, value: &Expression) -> Result<Dra
 
 /// A constant that stands for a type.
 fn type_constant(alloc: Global, variable: &Variable, meant: DraftType) -> Result<Draft, AllocError>
-    ensures { IfOk result (λ draft. seen_draft draft ≡ variable_row (type_constant variable.now.name (declared_of (seen_variable variable.now)) (seen_type meant))) }
+    ensures { IfOk result (λ draft. seen_draft draft
+        ≡ variable_row (type_constant variable.now.name (declared_of (seen_variable variable.now))
+        (seen_type meant))) }
 {
     let name = variable.name.copy()?;
     let declared = declared_of(alloc, variable)?;
@@ -119,7 +125,9 @@ fn type_constant(alloc: Global, variable: &Variable, meant: DraftType) -> Result
 
 /// Constants that take the values of an expression.
 fn constant_value(alloc: Global, target: &Target, value: &Expression) -> Result<Draft, AllocError>
-    ensures { IfOk result (λ draft. seen_draft draft ≡ top_term (spec.initial true (seen_target target.now) (table.core_of (seen_tree value.now)))) }
+    ensures { IfOk result (λ draft. seen_draft draft
+        ≡ top_term (spec.initial true (seen_target target.now)
+        (table.core_of (seen_tree value.now)))) }
 {
     let term = term_of(alloc, value)?;
     Ok(Draft::Top(initial(alloc, true, target, term)?))
@@ -132,7 +140,8 @@ fn initial(
     target: &Target,
     term: DraftTerm,
 ) -> Result<DraftTop, AllocError>
-    ensures { IfOk result (λ top. seen_top top ≡ spec.initial is_constant (seen_target target.now) (seen_term term)) }
+    ensures { IfOk result (λ top. seen_top top
+        ≡ spec.initial is_constant (seen_target target.now) (seen_term term)) }
 {
     match target {
         Target::One(variable) => {
@@ -155,7 +164,10 @@ fn several(
     found: &Variables,
     term: DraftTerm,
 ) -> Result<DraftTop, AllocError>
-    ensures { IfOk result (λ top. seen_top top ≡ spec.initial is_constant (source.several (map seen_variable found.now.variables.items) found.now.rest) (seen_term term)) }
+    ensures { IfOk result (λ top. seen_top top
+        ≡ spec.initial is_constant
+        (source.several (map seen_variable found.now.variables.items) found.now.rest)
+        (seen_term term)) }
 {
     match &found.rest {
         None => {
@@ -181,7 +193,8 @@ fn several(
 
 /// Variables with their types.
 fn typed_in(alloc: Global, variables: &Vec<Variable>) -> Result<Vec<(Token, DraftType)>, AllocError>
-    ensures { IfOk result (λ typed. map seen_typed typed.items ≡ map typed_of (map seen_variable variables.now.items)) }
+    ensures { IfOk result (λ typed. map seen_typed typed.items
+        ≡ map typed_of (map seen_variable variables.now.items)) }
 {
     let mut typed = Vec::new(alloc);
     for variable in variables {
@@ -197,7 +210,8 @@ fn generic_of(
     name: &Token,
     parameters: &Parameters,
 ) -> Result<Draft, AllocError>
-    ensures { IfOk result (λ draft. seen_draft draft ≡ spec.generic_of adjectives.now.items name.now (seen_parameters parameters.now)) }
+    ensures { IfOk result (λ draft. seen_draft draft
+        ≡ spec.generic_of adjectives.now.items name.now (seen_parameters parameters.now)) }
 {
     Ok(Draft::Generic(DraftGeneric {
         adjectives: copy_all(alloc, adjectives)?,
@@ -227,7 +241,9 @@ fn method_of(
     parameters: &Parameters,
     body: &Vec<Item>,
 ) -> Result<Draft, AllocError>
-    ensures { IfOk result (λ draft. seen_draft draft ≡ spec.method_of adjectives.now.items word.now name.now (seen_parameters parameters.now) (body_of (seen_items body.now.items))) }
+    ensures { IfOk result (λ draft. seen_draft draft
+        ≡ spec.method_of adjectives.now.items word.now name.now (seen_parameters parameters.now)
+        (body_of (seen_items body.now.items))) }
 {
     Ok(Draft::Method(DraftMethod {
         adjectives: copy_all(alloc, adjectives)?,
@@ -244,7 +260,8 @@ fn lambda_of(
     parameters: &Parameters,
     body: &Vec<Item>,
 ) -> Result<DraftLambda, AllocError>
-    ensures { IfOk result (λ code. seen_lambda code ≡ table.lambda_of (seen_parameters parameters.now) (body_of (seen_items body.now.items))) }
+    ensures { IfOk result (λ code. seen_lambda code
+        ≡ table.lambda_of (seen_parameters parameters.now) (body_of (seen_items body.now.items))) }
 {
     let defaults = defaults_of(alloc, parameters)?;
     let body = body_of(alloc, body)?;
@@ -253,7 +270,8 @@ fn lambda_of(
 
 /// The types of a domain.
 fn types_of(alloc: Global, forms: &Vec<TypeForm>) -> Result<Vec<DraftType>, AllocError>
-    ensures { IfOk result (λ types. map seen_type types.items ≡ map type_of (map type_tree forms.now.items)) }
+    ensures { IfOk result (λ types. map seen_type types.items
+        ≡ map type_of (map type_tree forms.now.items)) }
 {
     let mut types = Vec::new(alloc);
     for form in forms {

@@ -3,7 +3,8 @@
 ghost use Rattle.std.specs.Prelude.{◌≡◌, map, option_map, IfOk};
 ghost use Rattle.dy_rules.specs.SeenForms.{seen_option, seen_initial, seen_slot as slot_tree};
 ghost use Rattle.dy_term.specs.Rows.{seen_slot, seen_init};
-ghost use Rattle.dy_surface.specs.Forms.{kind_of, written_setter, setter_of, keyword_of, is_required, written_init, init_of, slot_of};
+ghost use Rattle.dy_surface.specs.Forms.{kind_of, written_setter, setter_of, keyword_of};
+ghost use Rattle.dy_surface.specs.Forms.{is_required, written_init, init_of, slot_of};
 
 use dy_desugar::term_of;
 use dy_drafts::{declared_or, has, setter_at};
@@ -28,7 +29,8 @@ fn kind_of(words: &[Token]) -> SlotKind
 
 /// The name behind `setter:`, or `#f`.
 fn written_setter(options: &[SlotOption]) -> Option<&Token>
-    ensures { option_map (λ token. token.now) result ≡ written_setter (map seen_option options.now) }
+    ensures { option_map (λ token. token.now) result
+        ≡ written_setter (map seen_option options.now) }
 {
     for option in options {
         if let SlotOption::Setter(token) = option {
@@ -40,7 +42,9 @@ fn written_setter(options: &[SlotOption]) -> Option<&Token>
 
 /// The name of a slot's setter, if it has one.
 fn setter_of(alloc: Global, slot: &Slot) -> Result<Option<Token>, AllocError>
-    ensures { IfOk result (λ setter. setter ≡ setter_of slot.now.adjectives.items slot.now.name (map seen_option slot.now.options.items)) }
+    ensures { IfOk result (λ setter. setter
+        ≡ setter_of slot.now.adjectives.items slot.now.name
+        (map seen_option slot.now.options.items)) }
 {
     if has(b"constant", &slot.adjectives) {
         return Ok(None);
@@ -59,7 +63,8 @@ fn setter_of(alloc: Global, slot: &Slot) -> Result<Option<Token>, AllocError>
 
 /// The init keyword, and whether it is required.
 fn keyword_of(options: &[SlotOption]) -> Option<(&Token, bool)>
-    ensures { option_map (λ found. (found.0.now, found.1)) result ≡ keyword_of (map seen_option options.now) }
+    ensures { option_map (λ found. (found.0.now, found.1)) result
+        ≡ keyword_of (map seen_option options.now) }
 {
     for option in options {
         match option {
@@ -73,7 +78,8 @@ fn keyword_of(options: &[SlotOption]) -> Option<(&Token, bool)>
 
 /// The init keyword, if there is one.
 fn init_keyword(options: &[SlotOption]) -> Result<Option<Token>, AllocError>
-    ensures { IfOk result (λ keyword. keyword ≡ option_map (λ found. found.0) (keyword_of (map seen_option options.now))) }
+    ensures { IfOk result (λ keyword. keyword
+        ≡ option_map (λ found. found.0) (keyword_of (map seen_option options.now))) }
 {
     match keyword_of(options) {
         None => Ok(None),
@@ -93,7 +99,8 @@ fn is_required(options: &[SlotOption]) -> bool
 
 /// What an option fills a slot with.
 fn written_init(alloc: Global, options: &[SlotOption]) -> Result<Option<DraftInit>, AllocError>
-    ensures { IfOk result (λ init. option_map seen_init init ≡ written_init (map seen_option options.now)) }
+    ensures { IfOk result (λ init. option_map seen_init init
+        ≡ written_init (map seen_option options.now)) }
 {
     for option in options {
         match option {
@@ -115,7 +122,8 @@ fn init_of(
     value: &Option<Expression>,
     options: &[SlotOption],
 ) -> Result<Option<DraftInit>, AllocError>
-    ensures { IfOk result (λ init. option_map seen_init init ≡ init_of (seen_initial value.now) (map seen_option options.now)) }
+    ensures { IfOk result (λ init. option_map seen_init init
+        ≡ init_of (seen_initial value.now) (map seen_option options.now)) }
 {
     match value {
         Some(value) => Ok(Some(DraftInit::Each(term_of(alloc, value)?))),
@@ -145,7 +153,8 @@ fn slot_of(alloc: Global, slot: &Slot) -> Result<DraftSlot, AllocError>
 
 /// The slots of a class.
 pub(crate) fn slots_of(alloc: Global, slots: &Vec<Slot>) -> Result<Vec<DraftSlot>, AllocError>
-    ensures { IfOk result (λ found. map seen_slot found.items ≡ map slot_of (map slot_tree slots.now.items)) }
+    ensures { IfOk result (λ found. map seen_slot found.items
+        ≡ map slot_of (map slot_tree slots.now.items)) }
 {
     let mut found = Vec::new(alloc);
     for slot in slots {

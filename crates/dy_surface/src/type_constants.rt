@@ -16,7 +16,8 @@ use std::alloc::{AllocError, Global};
 
 /// Whether a list is `#()`.
 fn is_nil(items: &[ConstantForm], tail: &Option<ConstantForm>) -> bool
-    ensures { result ≡ is_nil (constants_of (map seen_constant items.now)) (tail_of (option_map seen_constant tail.now)) }
+    ensures { result ≡ is_nil (constants_of (map seen_constant items.now))
+        (tail_of (option_map seen_constant tail.now)) }
 {
     match items.split_first() {
         Some(_) => false,
@@ -33,7 +34,8 @@ fn only_value(
     word: &Token,
     expression: &Expression,
 ) -> Result<Option<DraftType>, AllocError>
-    ensures { IfOk result (λ found. option_map seen_type found ≡ spec.only_value word.now (seen_tree expression.now)) }
+    ensures { IfOk result (λ found. option_map seen_type found
+        ≡ spec.only_value word.now (seen_tree expression.now)) }
 {
     match expression {
         Expression::Literal(form) => Ok(Some(DraftType::Single(literal_of(alloc, form)?))),
@@ -55,7 +57,8 @@ fn singleton_type(
     word: &Token,
     arguments: &[Argument],
 ) -> Result<Option<DraftType>, AllocError>
-    ensures { IfOk result (λ found. option_map seen_type found ≡ spec.singleton_type word.now (map seen_argument arguments.now)) }
+    ensures { IfOk result (λ found. option_map seen_type found
+        ≡ spec.singleton_type word.now (map seen_argument arguments.now)) }
 {
     if arguments.len() != 1 {
         return Ok(None);
@@ -68,7 +71,8 @@ fn singleton_type(
 
 /// `type-union(type, ..)`, of the types that the arguments are.
 fn union_type(word: &Token, types: Option<Vec<DraftType>>) -> Result<Option<DraftType>, AllocError>
-    ensures { IfOk result (λ found. option_map seen_type found ≡ spec.union_type word.now (option_map (λ types. map seen_type types.items) types)) }
+    ensures { IfOk result (λ found. option_map seen_type found
+        ≡ spec.union_type word.now (option_map (λ types. map seen_type types.items) types)) }
 {
     match types {
         None => Ok(None),
@@ -124,7 +128,8 @@ fn between(
     least: Option<i64>,
     greatest: Option<i64>,
 ) -> Result<Option<DraftType>, AllocError>
-    ensures { IfOk result (λ found. option_map seen_type found ≡ spec.between word.now least greatest) }
+    ensures { IfOk result (λ found. option_map seen_type found
+        ≡ spec.between word.now least greatest) }
 {
     match (least, greatest) {
         (Some(least), Some(greatest)) => {
@@ -136,7 +141,8 @@ fn between(
 
 /// The range with one bound.
 fn bounded_by(word: &Token, bound: &Argument) -> Result<Option<DraftType>, AllocError>
-    ensures { IfOk result (λ found. option_map seen_type found ≡ spec.bounded_by word.now (seen_argument bound.now)) }
+    ensures { IfOk result (λ found. option_map seen_type found
+        ≡ spec.bounded_by word.now (seen_argument bound.now)) }
 {
     match between(word, limit_in(b"min", bound), Some(i64::MAX))? {
         Some(found) => Ok(Some(found)),
@@ -150,7 +156,8 @@ fn bounded_by_both(
     bound: &Argument,
     other: &Argument,
 ) -> Result<Option<DraftType>, AllocError>
-    ensures { IfOk result (λ found. option_map seen_type found ≡ spec.bounded_by_both word.now (seen_argument bound.now) (seen_argument other.now)) }
+    ensures { IfOk result (λ found. option_map seen_type found
+        ≡ spec.bounded_by_both word.now (seen_argument bound.now) (seen_argument other.now)) }
 {
     match between(word, limit_in(b"min", bound), limit_in(b"max", other))? {
         Some(found) => Ok(Some(found)),
@@ -174,7 +181,8 @@ fn is_integer_class(argument: &Argument) -> bool
 /// `limited(<integer>, min: number, max: number)`
 #[tactic(auto, using(crate::proofs::Fronts::limited_other))]
 fn limited_type(word: &Token, arguments: &[Argument]) -> Result<Option<DraftType>, AllocError>
-    ensures { IfOk result (λ found. option_map seen_type found ≡ spec.limited_type word.now (map seen_argument arguments.now)) }
+    ensures { IfOk result (λ found. option_map seen_type found
+        ≡ spec.limited_type word.now (map seen_argument arguments.now)) }
 {
     if arguments.is_empty() || !is_integer_class(&arguments[0]) {
         return Ok(None);
@@ -198,7 +206,9 @@ fn form_type(
     arguments: &Vec<Argument>,
     word: &Token,
 ) -> Result<Option<DraftType>, AllocError>
-    ensures { IfOk result (λ found. option_map seen_type found ≡ spec.form_type word.now (map seen_argument arguments.now.items) (spec.types_in (arguments_of (map seen_argument arguments.now.items)))) }
+    ensures { IfOk result (λ found. option_map seen_type found
+        ≡ spec.form_type word.now (map seen_argument arguments.now.items)
+        (spec.types_in (arguments_of (map seen_argument arguments.now.items)))) }
 {
     if word.is_word(b"singleton") {
         singleton_type(alloc, word, arguments)
@@ -215,7 +225,8 @@ fn form_type(
 /// The type that an expression is written as, if it is one.
 #[cycle(types)]
 fn type_in(alloc: Global, expression: &Expression) -> Result<Option<DraftType>, AllocError>
-    ensures { IfOk result (λ found. option_map seen_type found ≡ spec.type_in (seen_tree expression.now)) }
+    ensures { IfOk result (λ found. option_map seen_type found
+        ≡ spec.type_in (seen_tree expression.now)) }
 {
     match expression {
         Expression::Name(token) => Ok(Some(DraftType::Name(token.copy()?))),
@@ -233,7 +244,8 @@ fn type_in(alloc: Global, expression: &Expression) -> Result<Option<DraftType>, 
 /// The types that arguments are, if all are types.
 #[cycle(types)]
 fn types_in(alloc: Global, arguments: &Vec<Argument>) -> Result<Option<Vec<DraftType>>, AllocError>
-    ensures { IfOk result (λ found. option_map (λ types. map seen_type types.items) found ≡ spec.types_in (arguments_of (map seen_argument arguments.now.items))) }
+    ensures { IfOk result (λ found. option_map (λ types. map seen_type types.items) found
+        ≡ spec.types_in (arguments_of (map seen_argument arguments.now.items))) }
 {
     let mut types = Vec::new(alloc);
     for argument in arguments {
@@ -248,7 +260,8 @@ fn types_in(alloc: Global, arguments: &Vec<Argument>) -> Result<Option<Vec<Draft
 /// The type that an argument is, if it is one.
 #[cycle(types)]
 fn argument_type(alloc: Global, argument: &Argument) -> Result<Option<DraftType>, AllocError>
-    ensures { IfOk result (λ found. option_map seen_type found ≡ spec.argument_type (seen_argument argument.now)) }
+    ensures { IfOk result (λ found. option_map seen_type found
+        ≡ spec.argument_type (seen_argument argument.now)) }
 {
     match argument {
         Argument::Keyword { .. } => Ok(None),
@@ -261,7 +274,8 @@ pub(crate) fn constant_type(
     alloc: Global,
     expression: &Expression,
 ) -> Result<Option<DraftType>, AllocError>
-    ensures { IfOk result (λ found. option_map seen_type found ≡ spec.constant_type (seen_tree expression.now)) }
+    ensures { IfOk result (λ found. option_map seen_type found
+        ≡ spec.constant_type (seen_tree expression.now)) }
 {
     match expression {
         Expression::Call { .. } => type_in(alloc, expression),
