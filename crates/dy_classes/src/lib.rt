@@ -11,6 +11,3 @@ mod rows;
 
 pub use legal::check_class;
 pub use order::{class_order, order_laws};
-
-#[cfg(test)]
-mod tests;

@@ -43,8 +43,7 @@ abbrev pub seen_open : Open → SeenOpen
 seen_open o = record {
   opener = o.opener;
   closing = o.closing;
-  before =
-      seen_fragments o.before.items;
+  before = seen_fragments o.before.items;
 }
 
 abbrev pub seen_opens : List Open → List SeenOpen
@@ -54,8 +53,7 @@ abbrev pub seen_state : State → SeenState
 seen_state s = record {
   at = s.at;
   context = s.context;
-  open_groups =
-      seen_opens s.open_groups.items;
+  open_groups = seen_opens s.open_groups.items;
   row = seen_fragments s.row.items;
   deep = s.deep;
 }
@@ -90,8 +88,7 @@ leaf_step s t context = Ok
       at = s.at + 1;
       context = context;
       open_groups = s.open_groups;
-      row =
-          with_tree s.deep s.row (one t);
+      row = with_tree s.deep s.row (one t);
       deep = s.deep;
     })
 
@@ -111,8 +108,7 @@ closed_step deep row t o os (closed.At at context) =
       at = at;
       context = context;
       open_groups = os;
-      row =
-          with_tree deep o.before (group o.opener (pack row) t);
+      row = with_tree deep o.before (group o.opener (pack row) t);
       deep = deep;
     })
 closed_step deep row t o os (closed.Wrong place) = Err (earlier deep place)

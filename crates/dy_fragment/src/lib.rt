@@ -7,8 +7,6 @@ mod grouping;
 mod laws;
 mod sign;
 mod steps;
-#[cfg(test)]
-mod tests;
 mod word;
 
 pub use closing::Closing;

@@ -37,4 +37,5 @@ Writes (Some old) (Some new) name bytes = new ≡ map.insert old name bytes
 abbrev pub ChangesOnly : Option FileMap → Option FileMap → List ℕ → Type 0
 ChangesOnly None new name = Unit {0}
 ChangesOnly (Some old) None name = ⊥
-ChangesOnly (Some old) (Some new) name = (other : List ℕ) → other ≢ name → map.get new other ≡ map.get old other
+ChangesOnly (Some old) (Some new) name = (other : List ℕ) → other ≢ name
+    → map.get new other ≡ map.get old other

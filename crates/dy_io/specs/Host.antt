@@ -11,11 +11,12 @@ sink_writer s = s.writer
 abbrev pub sink_faults : {W : Type 0} → HostSink W → ℕ
 sink_faults s = s.faults
 
--- At most so many bytes came behind what was there, and where it is known which bytes the reader had
--- left, the first of these.
+-- At most so many bytes came behind what was there, and where it is known which bytes the reader
+-- had left, the first of these.
 abbrev pub ReadsFront : Option (List ℕ) → ℕ → List ℕ → List ℕ → Type 0
 ReadsFront known most old new =
-    (bytes : List ℕ) × (length bytes ≤ most) × (new ≡ old ++ bytes) × IfSome known (λ had. bytes ≡ take most had)
+    (bytes : List ℕ) × (length bytes ≤ most) × (new ≡ old ++ bytes)
+    × IfSome known (λ had. bytes ≡ take most had)
 
 -- how often a call of files of the host has failed
 abbrev pub files_faults : {R : Type 0} → HostFiles R → ℕ

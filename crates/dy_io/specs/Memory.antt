@@ -30,9 +30,16 @@ abbrev pub files_state_code : Coded FilesState
 files_state_code = code_by (FileMap × (ℕ × (List ℕ × (ℕ × ℕ))))
     (coded× file_map_code (coded× coded_ℕ (coded× (coded_list coded_ℕ) (coded× coded_ℕ coded_ℕ))))
     (λ s. (s.files, (s.calls, (s.failing, (s.faults, s.misses)))))
-    (λ p. record { files = p.0; calls = p.1.0; failing = p.1.1.0; faults = p.1.1.1.0; misses = p.1.1.1.1 })
+    (λ p. record {
+      files = p.0;
+      calls = p.1.0;
+      failing = p.1.1.0;
+      faults = p.1.1.1.0;
+      misses = p.1.1.1.1;
+    })
     (λ _. refl)
 
 -- the files whose names and bytes are these
 abbrev pub files_of : {A B : Type 0} → List (String A × Vec ℕ B) → FileMap
-files_of entries = finite.from_entries (map (λ entry. (string_bytes entry.0, entry.1.items)) entries)
+files_of entries = finite.from_entries
+    (map (λ entry. (string_bytes entry.0, entry.1.items)) entries)

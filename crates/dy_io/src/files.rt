@@ -25,8 +25,8 @@ pub trait Files {
     /// How often a file was not there.
     ghost misses: { Self → ℕ };
 
-    /// Reads the first `most` bytes of a file, or all where it is shorter, behind what `into` holds.
-    /// After an error `into` is as before.
+    /// Reads the first `most` bytes of a file, or all where it is shorter, behind what `into`
+    /// holds. After an error `into` is as before.
     fn read(
         &mut self,
         alloc: Global,
@@ -35,10 +35,12 @@ pub trait Files {
         into: &mut Vec<u8>,
     ) -> Result<Found, ReadFail>
         ensures contents { contents self.new ≡ contents self.old }
-        ensures answers { IfOk result (Answers (contents self.old) name.now most into.old.items into.new.items) }
+        ensures answers { IfOk result
+            (Answers (contents self.old) name.now most into.old.items into.new.items) }
         ensures refused { OnErr result (into.new.items ≡ into.old.items) }
 
-        // A file is reported absent only where the misses rose, and failed only where the faults did.
+        // A file is reported absent only where the misses rose, and failed only where the faults
+        // did.
         ensures absent { result ≡ Ok Found.Absent → Rose (misses self.old) (misses self.new) }
         ensures failed { result ≡ Err ReadFail.Failed → Rose (faults self.old) (faults self.new) }
         ensures misses { misses self.old ≤ misses self.new }
@@ -47,8 +49,10 @@ pub trait Files {
     /// Makes these bytes the contents of a file. After a failure that file may hold anything, or be
     /// gone; after want of memory nothing has changed.
     fn write(&mut self, name: &str, bytes: &[u8]) -> Result<(), WriteFail>
-        ensures written { OnOk result (Writes (contents self.old) (contents self.new) name.now bytes.now) }
-        ensures others { OnErr result (ChangesOnly (contents self.old) (contents self.new) name.now) }
+        ensures written { OnOk result
+            (Writes (contents self.old) (contents self.new) name.now bytes.now) }
+        ensures others { OnErr result
+            (ChangesOnly (contents self.old) (contents self.new) name.now) }
         ensures memory { result ≡ Err WriteFail.Memory → contents self.new ≡ contents self.old }
         ensures failed { result ≡ Err WriteFail.Failed → Rose (faults self.old) (faults self.new) }
         ensures misses { misses self.old ≤ misses self.new }

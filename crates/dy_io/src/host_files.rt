@@ -45,8 +45,8 @@ impl<'a, R: rt::Files> Files for HostFiles<'a, R> {
 
     ghost misses = { λ f. f.misses };
 
-    /// A file that is not there is `Absent`. `Failed` comes where it could not be opened or read, as a
-    /// folder, or where its name is none that the system takes.
+    /// A file that is not there is `Absent`. `Failed` comes where it could not be opened or read,
+    /// as a folder, or where its name is none that the system takes.
     fn read(
         &mut self,
         _alloc: Global,
@@ -56,16 +56,22 @@ impl<'a, R: rt::Files> Files for HostFiles<'a, R> {
     ) -> Result<Found, ReadFail>
         ensures answers { IfOk result (Answers None name.now most into.old.items into.new.items) }
         ensures refused { OnErr result (into.new.items ≡ into.old.items) }
-        ensures absent { result ≡ Ok Found.Absent → Rose (files_misses self.old) (files_misses self.new) }
-        ensures failed { result ≡ Err ReadFail.Failed → Rose (files_faults self.old) (files_faults self.new) }
+        ensures absent { result ≡ Ok Found.Absent
+            → Rose (files_misses self.old) (files_misses self.new) }
+        ensures failed { result ≡ Err ReadFail.Failed
+            → Rose (files_faults self.old) (files_faults self.new) }
         ensures misses { files_misses self.old ≤ files_misses self.new }
         ensures faults { files_faults self.old ≤ files_faults self.new }
 
         // Each miss and each failure is counted, and nothing else is.
-        ensures missed { result ≡ Ok Found.Absent → files_misses self.new ≡ one_more (files_misses self.old) }
-        ensures not_missed { result ≢ Ok Found.Absent → files_misses self.new ≡ files_misses self.old }
-        ensures counted { result ≡ Err ReadFail.Failed → files_faults self.new ≡ one_more (files_faults self.old) }
-        ensures uncounted { result ≢ Err ReadFail.Failed → files_faults self.new ≡ files_faults self.old }
+        ensures missed { result ≡ Ok Found.Absent
+            → files_misses self.new ≡ one_more (files_misses self.old) }
+        ensures not_missed { result ≢ Ok Found.Absent
+            → files_misses self.new ≡ files_misses self.old }
+        ensures counted { result ≡ Err ReadFail.Failed
+            → files_faults self.new ≡ one_more (files_faults self.old) }
+        ensures uncounted { result ≢ Err ReadFail.Failed
+            → files_faults self.new ≡ files_faults self.old }
     {
         let answer = read_named(self.rt, name, most, into);
         match answer {
@@ -76,17 +82,20 @@ impl<'a, R: rt::Files> Files for HostFiles<'a, R> {
         answer
     }
 
-    /// Makes the file where there is none. `Failed` comes where it could not be made or opened, or where
-    /// a write or the flush failed.
+    /// Makes the file where there is none. `Failed` comes where it could not be made or opened, or
+    /// where a write or the flush failed.
     fn write(&mut self, name: &str, bytes: &[u8]) -> Result<(), WriteFail>
-        ensures failed { result ≡ Err WriteFail.Failed → Rose (files_faults self.old) (files_faults self.new) }
+        ensures failed { result ≡ Err WriteFail.Failed
+            → Rose (files_faults self.old) (files_faults self.new) }
         ensures misses { files_misses self.old ≤ files_misses self.new }
         ensures faults { files_faults self.old ≤ files_faults self.new }
 
         // Each failure is counted, nothing else is, and there is no other error.
         ensures cause { OnErr result (result ≡ Err WriteFail.Failed) }
-        ensures counted { result ≡ Err WriteFail.Failed → files_faults self.new ≡ one_more (files_faults self.old) }
-        ensures uncounted { result ≢ Err WriteFail.Failed → files_faults self.new ≡ files_faults self.old }
+        ensures counted { result ≡ Err WriteFail.Failed
+            → files_faults self.new ≡ one_more (files_faults self.old) }
+        ensures uncounted { result ≢ Err WriteFail.Failed
+            → files_faults self.new ≡ files_faults self.old }
         ensures not_missed { files_misses self.new ≡ files_misses self.old }
     {
         let answer = write_named(self.rt, name, bytes);

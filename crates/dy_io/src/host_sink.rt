@@ -37,15 +37,20 @@ impl<W: Write + Drop> Sink for HostSink<W> {
 
     ghost faults = { λ s. s.faults };
 
-    /// `Failed` comes where a write or the flush failed, or where the writer took nothing of bytes that
-    /// were left.
+    /// `Failed` comes where a write or the flush failed, or where the writer took nothing of bytes
+    /// that were left.
     fn put(&mut self, bytes: &[u8]) -> Result<(), WriteFail>
-        ensures failed { result ≡ Err WriteFail.Failed → Rose (sink_faults self.old) (sink_faults self.new) }
+        ensures failed { result ≡ Err WriteFail.Failed
+            → Rose (sink_faults self.old) (sink_faults self.new) }
         ensures faults { sink_faults self.old ≤ sink_faults self.new }
 
         // What the writer holds, where it tells it, and each failure is counted.
-        ensures written { OnOk result (Appends (W.contents (sink_writer self.old)) (W.contents (sink_writer self.new)) bytes.now) }
-        ensures part { OnErr result (AppendsFront (W.contents (sink_writer self.old)) (W.contents (sink_writer self.new)) bytes.now) }
+        ensures written { OnOk result
+            (Appends (W.contents (sink_writer self.old))
+            (W.contents (sink_writer self.new)) bytes.now) }
+        ensures part { OnErr result
+            (AppendsFront (W.contents (sink_writer self.old))
+            (W.contents (sink_writer self.new)) bytes.now) }
         ensures cause { OnErr result (result ≡ Err WriteFail.Failed) }
         ensures counted { OnErr result (sink_faults self.new ≡ one_more (sink_faults self.old)) }
         ensures uncounted { OnOk result (sink_faults self.new ≡ sink_faults self.old) }

@@ -19,6 +19,3 @@ pub use host_sink::HostSink;
 pub use mem_files::MemFiles;
 pub use mem_sink::MemSink;
 pub use sink::Sink;
-
-#[cfg(test)]
-mod tests;

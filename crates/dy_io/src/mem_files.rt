@@ -1,6 +1,7 @@
 //! Files in memory.
 
-ghost use Rattle.std.specs.Prelude.{Some, None, ◌≡◌, ◌≢◌, ◌≤◌, ◌↔◌, [], ◌∷◌, ◌++◌, IfOk, OnOk, OnErr};
+ghost use Rattle.std.specs.Prelude.{Some, None, ◌≡◌, ◌≢◌, ◌≤◌, ◌↔◌, [], ◌∷◌, ◌++◌, IfOk, OnOk};
+ghost use Rattle.std.specs.Prelude.{OnErr};
 ghost use Rattle.std.specs.Option.{option_copied};
 ghost use Rattle.std.specs.FinMap as map;
 ghost use Rattle.dy_io.specs.Causes.{Rose, one_more, FailsNext};
@@ -31,7 +32,13 @@ impl Model for MemFiles {
 
     ghost coded = { files_state_code };
 
-    ghost view = { λ f. record { files = f.table; calls = f.calls.made; failing = f.calls.failing.items; faults = f.faults; misses = f.misses } };
+    ghost view = { λ f. record {
+      files = f.table;
+      calls = f.calls.made;
+      failing = f.calls.failing.items;
+      faults = f.faults;
+      misses = f.misses;
+    } };
 }
 
 impl MemFiles {
@@ -55,7 +62,8 @@ impl MemFiles {
     /// Makes these bytes the contents of a file. It counts as no call. After want of memory nothing
     /// has changed.
     pub fn add(&mut self, name: &str, bytes: &[u8]) -> Result<(), AllocError>
-        ensures ok { OnOk result (self.new ≡ record self.old { files = map.insert self.old.files name.now bytes.now }) }
+        ensures ok { OnOk result (self.new
+            ≡ record self.old { files = map.insert self.old.files name.now bytes.now }) }
         ensures err { OnErr result (self.new ≡ self.old) }
     {
         self.table.set(self.alloc, name, bytes)
@@ -64,7 +72,8 @@ impl MemFiles {
     /// Names a call that is to fail, by its number from 1 on. After want of memory nothing has
     /// changed.
     pub fn fail_at(&mut self, call: u64) -> Result<(), AllocError>
-        ensures ok { OnOk result (self.new ≡ record self.old { failing = self.old.failing ++ call ∷ [] }) }
+        ensures ok { OnOk result (self.new
+            ≡ record self.old { failing = self.old.failing ++ call ∷ [] }) }
         ensures err { OnErr result (self.new ≡ self.old) }
     {
         self.calls.fail_at(call)
@@ -94,7 +103,8 @@ impl Files for MemFiles {
         into: &mut Vec<u8>,
     ) -> Result<Found, ReadFail>
         ensures contents { self.new.files ≡ self.old.files }
-        ensures answers { IfOk result (Answers (Some self.old.files) name.now most into.old.items into.new.items) }
+        ensures answers { IfOk result
+            (Answers (Some self.old.files) name.now most into.old.items into.new.items) }
         ensures refused { OnErr result (into.new.items ≡ into.old.items) }
         ensures absent { result ≡ Ok Found.Absent → Rose self.old.misses self.new.misses }
         ensures failed { result ≡ Err ReadFail.Failed → Rose self.old.faults self.new.faults }
@@ -103,14 +113,16 @@ impl Files for MemFiles {
 
         // A missing name is absent, except at a call that is to fail.
         ensures fails { (result ≡ Err ReadFail.Failed) ↔ FailsNext self.old.calls self.old.failing }
-        ensures lacks { (result ≡ Ok Found.Absent) ↔ ((map.get self.old.files name.now ≡ None) × (result ≢ Err ReadFail.Failed)) }
+        ensures lacks { (result ≡ Ok Found.Absent)
+            ↔ ((map.get self.old.files name.now ≡ None) × (result ≢ Err ReadFail.Failed)) }
         ensures calls { self.new.calls ≡ one_more self.old.calls }
         ensures failing { self.new.failing ≡ self.old.failing }
 
         // Each miss and each failure is counted, and nothing else is.
         ensures missed { result ≡ Ok Found.Absent → self.new.misses ≡ one_more self.old.misses }
         ensures not_missed { result ≢ Ok Found.Absent → self.new.misses ≡ self.old.misses }
-        ensures counted { result ≡ Err ReadFail.Failed → self.new.faults ≡ one_more self.old.faults }
+        ensures counted { result ≡ Err ReadFail.Failed
+            → self.new.faults ≡ one_more self.old.faults }
         ensures uncounted { result ≢ Err ReadFail.Failed → self.new.faults ≡ self.old.faults }
     {
         if self.calls.next_fails() {
@@ -130,22 +142,27 @@ impl Files for MemFiles {
 
     /// `Failed` comes exactly at the calls that were named, and such a call takes the file out.
     fn write(&mut self, name: &str, bytes: &[u8]) -> Result<(), WriteFail>
-        ensures written { OnOk result (Writes (Some self.old.files) (Some self.new.files) name.now bytes.now) }
-        ensures others { OnErr result (ChangesOnly (Some self.old.files) (Some self.new.files) name.now) }
+        ensures written { OnOk result
+            (Writes (Some self.old.files) (Some self.new.files) name.now bytes.now) }
+        ensures others { OnErr result
+            (ChangesOnly (Some self.old.files) (Some self.new.files) name.now) }
         ensures memory { result ≡ Err WriteFail.Memory → self.new.files ≡ self.old.files }
         ensures failed { result ≡ Err WriteFail.Failed → Rose self.old.faults self.new.faults }
         ensures misses { self.old.misses ≤ self.new.misses }
         ensures faults { self.old.faults ≤ self.new.faults }
 
         // What a failing call does.
-        ensures fails { (result ≡ Err WriteFail.Failed) ↔ FailsNext self.old.calls self.old.failing }
-        ensures lost { result ≡ Err WriteFail.Failed → self.new.files ≡ map.remove self.old.files name.now }
+        ensures fails { (result ≡ Err WriteFail.Failed)
+            ↔ FailsNext self.old.calls self.old.failing }
+        ensures lost { result ≡ Err WriteFail.Failed
+            → self.new.files ≡ map.remove self.old.files name.now }
         ensures calls { self.new.calls ≡ one_more self.old.calls }
         ensures failing { self.new.failing ≡ self.old.failing }
 
         // Each failure is counted, and nothing else is.
         ensures not_missed { self.new.misses ≡ self.old.misses }
-        ensures counted { result ≡ Err WriteFail.Failed → self.new.faults ≡ one_more self.old.faults }
+        ensures counted { result ≡ Err WriteFail.Failed
+            → self.new.faults ≡ one_more self.old.faults }
         ensures uncounted { result ≢ Err WriteFail.Failed → self.new.faults ≡ self.old.faults }
     {
         if self.calls.next_fails() {

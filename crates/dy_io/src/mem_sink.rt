@@ -25,7 +25,12 @@ impl Model for MemSink {
 
     ghost Value = { SinkState };
 
-    ghost view = { λ s. record { bytes = s.sent.items; calls = s.calls.made; failing = s.calls.failing.items; faults = s.faults } };
+    ghost view = { λ s. record {
+      bytes = s.sent.items;
+      calls = s.calls.made;
+      failing = s.calls.failing.items;
+      faults = s.faults;
+    } };
 }
 
 impl MemSink {
@@ -46,7 +51,8 @@ impl MemSink {
     /// Names a call of `put` that is to fail, by its number from 1 on. After want of memory nothing
     /// has changed.
     pub fn fail_at(&mut self, call: u64) -> Result<(), AllocError>
-        ensures ok { OnOk result (self.new ≡ record self.old { failing = self.old.failing ++ call ∷ [] }) }
+        ensures ok { OnOk result (self.new
+            ≡ record self.old { failing = self.old.failing ++ call ∷ [] }) }
         ensures err { OnErr result (self.new ≡ self.old) }
     {
         self.calls.fail_at(call)
@@ -68,17 +74,21 @@ impl Sink for MemSink {
     /// `Failed` comes exactly at the calls that were named, and such a call sends nothing.
     fn put(&mut self, bytes: &[u8]) -> Result<(), WriteFail>
         ensures sent { OnOk result (Appends (Some self.old.bytes) (Some self.new.bytes) bytes.now) }
-        ensures front { OnErr result (AppendsFront (Some self.old.bytes) (Some self.new.bytes) bytes.now) }
-        ensures memory { result ≡ Err WriteFail.Memory → Keeps (Some self.old.bytes) (Some self.new.bytes) }
+        ensures front { OnErr result
+            (AppendsFront (Some self.old.bytes) (Some self.new.bytes) bytes.now) }
+        ensures memory { result ≡ Err WriteFail.Memory
+            → Keeps (Some self.old.bytes) (Some self.new.bytes) }
         ensures failed { result ≡ Err WriteFail.Failed → Rose self.old.faults self.new.faults }
         ensures faults { self.old.faults ≤ self.new.faults }
 
         // What each call does to what the sink keeps.
-        ensures fails { (result ≡ Err WriteFail.Failed) ↔ FailsNext self.old.calls self.old.failing }
+        ensures fails { (result ≡ Err WriteFail.Failed)
+            ↔ FailsNext self.old.calls self.old.failing }
         ensures kept { OnErr result (self.new.bytes ≡ self.old.bytes) }
         ensures calls { self.new.calls ≡ one_more self.old.calls }
         ensures failing { self.new.failing ≡ self.old.failing }
-        ensures counted { result ≡ Err WriteFail.Failed → self.new.faults ≡ one_more self.old.faults }
+        ensures counted { result ≡ Err WriteFail.Failed
+            → self.new.faults ≡ one_more self.old.faults }
         ensures uncounted { result ≢ Err WriteFail.Failed → self.new.faults ≡ self.old.faults }
     {
         if self.calls.next_fails() {

@@ -19,8 +19,10 @@ pub trait Sink {
     /// their front on, may have been sent; after want of memory none has.
     fn put(&mut self, bytes: &[u8]) -> Result<(), WriteFail>
         ensures sent { OnOk result (Appends (contents self.old) (contents self.new) bytes.now) }
-        ensures front { OnErr result (AppendsFront (contents self.old) (contents self.new) bytes.now) }
-        ensures memory { result ≡ Err WriteFail.Memory → Keeps (contents self.old) (contents self.new) }
+        ensures front { OnErr result
+            (AppendsFront (contents self.old) (contents self.new) bytes.now) }
+        ensures memory { result ≡ Err WriteFail.Memory
+            → Keeps (contents self.old) (contents self.new) }
         ensures failed { result ≡ Err WriteFail.Failed → Rose (faults self.old) (faults self.new) }
         ensures faults { faults self.old ≤ faults self.new };
 }

@@ -27,7 +27,8 @@ pub fn read_fail(error: &io::Error) -> ReadFail
 /// Reads the first `most` bytes, or all where there are fewer, behind what `into` holds. After an
 /// error, which comes where a call fails or memory does not suffice, `into` is as before.
 pub fn read_front<R: Read>(reader: &mut R, most: u64, into: &mut Vec<u8>) -> Result<(), ReadFail>
-    ensures front { OnOk result (ReadsFront (R.remaining reader.old) most into.old.items into.new.items) }
+    ensures front { OnOk result
+        (ReadsFront (R.remaining reader.old) most into.old.items into.new.items) }
     ensures refused { OnErr result (into.new.items ≡ into.old.items) }
 {
     let before = into.len();
@@ -40,7 +41,8 @@ pub fn read_front<R: Read>(reader: &mut R, most: u64, into: &mut Vec<u8>) -> Res
 
 // The same, but after an error `into` may have more behind what it held.
 fn read_pieces<R: Read>(reader: &mut R, most: u64, into: &mut Vec<u8>) -> Result<(), ReadFail>
-    ensures front { OnOk result (ReadsFront (R.remaining reader.old) most into.old.items into.new.items) }
+    ensures front { OnOk result
+        (ReadsFront (R.remaining reader.old) most into.old.items into.new.items) }
     ensures behind { StartsWith into.new.items into.old.items }
 {
     let mut piece = [0u8; PIECE];
@@ -61,11 +63,13 @@ fn read_pieces<R: Read>(reader: &mut R, most: u64, into: &mut Vec<u8>) -> Result
     Ok(())
 }
 
-/// Writes all these bytes, and flushes. A call that fails, or that takes nothing where bytes are left,
-/// ends it with `Failed`, the only error.
+/// Writes all these bytes, and flushes. A call that fails, or that takes nothing where bytes are
+/// left, ends it with `Failed`, the only error.
 pub fn write_whole<W: Write>(writer: &mut W, bytes: &[u8]) -> Result<(), WriteFail>
-    ensures written { OnOk result (Appends (W.contents writer.old) (W.contents writer.new) bytes.now) }
-    ensures front { OnErr result (AppendsFront (W.contents writer.old) (W.contents writer.new) bytes.now) }
+    ensures written { OnOk result
+        (Appends (W.contents writer.old) (W.contents writer.new) bytes.now) }
+    ensures front { OnErr result
+        (AppendsFront (W.contents writer.old) (W.contents writer.new) bytes.now) }
     ensures failed { OnErr result (result ≡ Err WriteFail.Failed) }
 {
     let mut taken = 0;

@@ -6,8 +6,6 @@ mod header;
 mod laws;
 mod reading;
 mod source;
-#[cfg(test)]
-mod tests;
 mod token;
 
 pub use files::{lex, read_lid};

@@ -10,6 +10,3 @@ mod types;
 
 pub use laws::type_laws;
 pub use types::{instance, meet, subtype};
-
-#[cfg(test)]
-mod tests;

@@ -1,8 +1,8 @@
 //! Orders and refusals by examples, and orders by a search of all lists. Expected values come from
 //! The Dylan Reference Manual and from the rules of `class_order` and `check_class`.
 
-use super::*;
 use dy_base::{ClassId, ClassOrder, Fault, GenericId, Items, Kind, Ref, Refusal, fold};
+use dy_classes::*;
 use dy_term::{
     ClassRow, DyType, GenericRow, LibraryRow, Params, Program, Results, SlotKind, SlotRow,
 };

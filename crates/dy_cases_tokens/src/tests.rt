@@ -1,7 +1,7 @@
 //! Tokens and headers by examples. Expected values come from the rules of docs/LANGUAGE.md.
 
-use crate::{lex, read_lid};
 use dy_base::{Fault, Refusal};
+use dy_lexer::{lex, read_lid};
 use dy_tree::Token;
 use std::alloc::{AllocError, Global};
 use std::process::Abort;
@@ -41,7 +41,8 @@ fn write_fault(out: &mut String, fault: &Fault, before: u32) -> Result<(), Alloc
     write!(out, "{kind:?} @{place}")
 }
 
-/// The module, the tokens and their places, or the fault and its place; places are counted after `before` bytes.
+/// The module, the tokens and their places, or the fault and its place; places are counted after
+/// `before` bytes.
 fn shown(alloc: Global, bytes: &[u8], before: u32) -> Result<String, AllocError> {
     let mut out = String::new(alloc);
     if 4096 < bytes.len() {

@@ -1,7 +1,7 @@
 //! Groups by examples. Expected values come from the rules of docs/LANGUAGE-groups.md.
 
-use crate::group;
 use dy_base::{Fault, Items, Place, Refusal, Text, fold};
+use dy_fragment::group;
 use dy_tree::{Fragment, MacroKind, Token, TokenKind, Word, Words};
 use std::alloc::{AllocError, AllocFailed, Global};
 use std::test::Fail;

@@ -1,4 +1,4 @@
-use crate::{Files, Found, HostFiles, HostSink, MemFiles, MemSink, ReadFail, Sink, WriteFail};
+use dy_io::{Files, Found, HostFiles, HostSink, MemFiles, MemSink, ReadFail, Sink, WriteFail};
 use std::alloc::{AllocError, Global};
 use std::io::{ErrorKind, Write};
 use std::{fs, io};

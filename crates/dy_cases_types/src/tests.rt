@@ -1,6 +1,6 @@
-use super::*;
 use dy_base::{ClassId, ClassOrder, Items, Ref, Text, fold};
 use dy_term::{ClassRow, DyType, LibraryRow, Literal, Member, Program, Shape1};
+use dy_types::*;
 use std::alloc::{AllocError, Global};
 use std::test::Fail;
 

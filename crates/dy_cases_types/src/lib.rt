@@ -1,0 +1,5 @@
+//! Tests of subtypes, instances and meets.
+#![tactic(auto)]
+
+#[cfg(test)]
+mod tests;
