@@ -8,7 +8,7 @@ use crate::tables;
 use crate::written::Written;
 use dy_base::Refusal;
 use dy_cases_text::fragments_of;
-use dy_read_forms::parse;
+use dy_reader::parse;
 use dy_surface::to_core;
 use dy_term::{Draft, DraftTerm, DraftTop};
 use std::alloc::{AllocError, Global};

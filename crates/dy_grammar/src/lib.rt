@@ -2,5 +2,9 @@
 //! (`unparse`).
 #![tactic(auto)]
 
-pub use dy_read_forms::parse;
-pub use dy_writer::{round_trip_laws, unparse};
+mod laws;
+mod unparsing;
+
+pub use dy_reader::parse;
+pub use laws::round_trip_laws;
+pub use unparsing::unparse;

@@ -14,10 +14,10 @@ use Rattle.dy_rules.specs.Types.{TypeTree, TargetTree}
 use Rattle.dy_rules_depth.specs.Changes.{changed_target, changed_parameters, changed_item, changed_method}
 use Rattle.dy_rules_depth.specs.Capping.{capped, capped_type, capping, filling}
 use Rattle.dy_rules_depth.proofs.Rows.{row_body, row_methods, row_parameters}
-use Rattle.dy_read_statements.specs.BodyDepths.{ItemDepth, MethodDepth, MethodsDepth}
+use Rattle.dy_read_arms.specs.BodyDepths.{ItemDepth, MethodDepth, MethodsDepth}
 use Rattle.dy_read_shapes.specs.ItemShapes.{let_to, let_read, handler_to, handler_read}
 use Rattle.dy_read_parts.specs.Pieces.{each_part, read_before, unless_empty}
-use Rattle.dy_read_statements.specs.ReadBodies.{read_item, read_method, read_methods}
+use Rattle.dy_read_arms.specs.ReadBodies.{read_item, read_method, read_methods}
 use Rattle.dy_read_statements.specs.ReadMethods.{NamedParts, capped_named, named_parts, method_of_parts, read_named, NamedDepth}
 use Rattle.dy_read_parts.proofs.PieceRows.{nothing_before}
 use Rattle.dy_read_statements.specs.declared.method_read.NamedRead.{NamedRead}

@@ -7,7 +7,12 @@ use Rattle.dy_read_shapes.specs.ListHeads.{read_each_required}
 use Rattle.dy_read_shapes.specs.ReadKeys.{read_keys}
 
 abbrev pub read_listed : ListedRead → Listed
-read_listed read = record { required = read_each_required read.required.items; next = read.next; rest = read.rest; keys = option_map read_keys read.keys }
+read_listed read = record {
+  required = read_each_required read.required.items;
+  next = read.next;
+  rest = read.rest;
+  keys = option_map read_keys read.keys;
+}
 
 abbrev pub listed_depth : Listed → ℕ
 listed_depth found = max (required_depth found.required) (maybe_keys_depth (maybe_keys found.keys))

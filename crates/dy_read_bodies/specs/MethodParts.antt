@@ -24,7 +24,8 @@ named_by (Some token) rest = option_map (named_of token) (method_items rest)
 
 abbrev pub name_read : Option NameFront → Option NamedFound
 name_read None = None
-name_read (Some front) = option_map (named_of front.name.now) (method_items (items_of (seen_fragments front.rest.now)))
+name_read (Some front) = option_map (named_of front.name.now)
+    (method_items (items_of (seen_fragments front.rest.now)))
 
 -- what stands behind the name is nested at most so deep
 abbrev pub IsNameWithin : ℕ → Option NameFront → Type 0

@@ -6,4 +6,5 @@ use Rattle.dy_rules.specs.Held.{held_key}
 
 abbrev pub kept_keys : Option KeysRead → trees.MaybeKeys
 kept_keys None = trees.no_keys
-kept_keys (Some read) = trees.some_keys (trees.keys_of (map held_key read.keys.items)) read.takes_all
+kept_keys (Some read) = trees.some_keys
+    (trees.keys_of (map held_key read.keys.items)) read.takes_all

@@ -8,29 +8,28 @@ ghost use Rattle.dy_rules.specs.Fragments.{items_of};
 ghost use Rattle.dy_rules.specs.StatementReading.{statement_items};
 ghost use Rattle.dy_rules_depth.specs.Capping.{capped, capping};
 ghost use Rattle.dy_rules_depth.specs.ReaderChanges.{changed_choices, changed_head};
-ghost use Rattle.dy_read_statements.specs.Arms.{read_behind, read_choices, read_head};
+ghost use Rattle.dy_read_arms.specs.Arms.{read_behind, read_choices};
+ghost use Rattle.dy_read_statements.specs.Heads.{read_head};
 ghost use Rattle.dy_read_parts.specs.Cut.{seen_pieces};
-ghost use Rattle.dy_read_operators.specs.Grown.{read_grown};
-ghost use Rattle.dy_read_statements.specs.ReadArms as spec;
-ghost use Rattle.dy_read_statements.specs.ReadBodies.{read_item};
-ghost use Rattle.dy_read_statements.specs.BodyDepths.{ItemDepth};
+ghost use Rattle.dy_read_outers.specs.Grown.{read_grown};
+ghost use Rattle.dy_read_arms.specs.ReadArms as spec;
+ghost use Rattle.dy_read_arms.specs.ReadBodies.{read_item};
+ghost use Rattle.dy_read_arms.specs.BodyDepths.{ItemDepth};
 
 use crate::bodies::item;
 use crate::expressions::expression;
-use dy_read_operators::grown::Grown;
+use dy_read_arms::arm_parts::{finished, no_choices, none_behind, with_arm, with_item, with_last};
+use dy_read_arms::choices::{Choices, ChoicesBehind};
+use dy_read_outers::grown::Grown;
 use dy_read_parts::cutting::{behind_first, split_piece};
+use dy_read_parts::depth::deepest;
 use dy_read_parts::front::headed;
 use dy_read_parts::kind::{PieceKind, kind_of};
 use dy_read_parts::pieces::{Pieces, cut};
 use dy_read_parts::separator::Separator;
 use dy_read_parts::trim::without_end;
 use dy_read_statements::arm_nodes::{case_with, select_with};
-use dy_read_statements::arm_parts::{
-    finished, no_choices, none_behind, with_arm, with_item, with_last,
-};
-use dy_read_statements::choices::{Choices, ChoicesBehind};
 use dy_read_statements::head::{Head, HeadShape, alone, by_test, head_shape};
-use dy_read_types::depth::deepest;
 use dy_tree::{Expression, Fragment, Item, Splitting, Token};
 use std::alloc::{AllocError, Global};
 
@@ -41,7 +40,10 @@ fn tests(
     fragments: &[Fragment],
     depth: &mut usize,
 ) -> Result<Option<Vec<Expression>>, AllocError>
-    ensures found { IfOk result (λ found. option_map spec.read_tests found ≡ option_map spec.capped_trees (choices.tests_items (items_of (seen_fragments fragments.now)))) }
+    ensures found { IfOk result
+        (λ found. option_map spec.read_tests found
+        ≡ option_map spec.capped_trees
+        (choices.tests_items (items_of (seen_fragments fragments.now)))) }
     ensures depth { IfOk result (λ found. spec.TestsDepth depth.old depth.new found) }
 {
     let mut trees = Vec::new(alloc);
@@ -61,7 +63,8 @@ fn tests(
 }
 
 fn present(item: Option<Item>) -> Option<Option<Item>>
-    ensures found { option_map spec.read_first result ≡ option_map Some (option_map read_item item) }
+    ensures found { option_map spec.read_first result
+        ≡ option_map Some (option_map read_item item) }
     ensures depth { (old new : ℕ) → ItemDepth old new item → spec.FirstDepth old new result }
 {
     match item {
@@ -77,7 +80,9 @@ fn first_item(
     fragments: &[Fragment],
     depth: &mut usize,
 ) -> Result<Option<Option<Item>>, AllocError>
-    ensures found { IfOk result (λ found. option_map spec.read_first found ≡ spec.capped_first (items_of (seen_fragments fragments.now))) }
+    ensures found { IfOk result
+        (λ found. option_map spec.read_first found
+        ≡ spec.capped_first (items_of (seen_fragments fragments.now))) }
     ensures depth { IfOk result (λ found. spec.FirstDepth depth.old depth.new found) }
 {
     if fragments.is_empty() {
@@ -94,7 +99,8 @@ fn choice(
     fragments: &[Fragment],
     behind: ChoicesBehind,
 ) -> Result<Option<ChoicesBehind>, AllocError>
-    ensures { IfOk result (λ found. option_map read_behind found ≡ spec.capped_piece single (items_of (seen_fragments fragments.now)) (read_behind behind)) }
+    ensures { IfOk result (λ found. option_map read_behind found
+        ≡ spec.capped_piece single (items_of (seen_fragments fragments.now)) (read_behind behind)) }
 {
     let mut inside = 0;
     match kind_of(fragments) {
@@ -125,7 +131,8 @@ fn choices_in(
     single: bool,
     pieces: &Pieces<'_>,
 ) -> Result<Option<ChoicesBehind>, AllocError>
-    ensures { IfOk result (λ found. option_map read_behind found ≡ spec.capped_pieces single (seen_pieces pieces.now)) }
+    ensures { IfOk result (λ found. option_map read_behind found
+        ≡ spec.capped_pieces single (seen_pieces pieces.now)) }
 {
     let others = pieces.others.as_slice();
     let mut behind = none_behind(alloc);
@@ -145,7 +152,9 @@ fn choices_in(
 #[cycle(read)]
 #[tactic(auto, using(dy_read_statements::proofs::Arms::none_given, dy_read_statements::proofs::Arms::nothing_left))]
 fn arms(alloc: Global, single: bool, fragments: &[Fragment]) -> Result<Option<Choices>, AllocError>
-    ensures { IfOk result (λ found. option_map read_choices found ≡ option_map (changed_choices capping) (choices.arms_items single (items_of (seen_fragments fragments.now)))) }
+    ensures { IfOk result (λ found. option_map read_choices found
+        ≡ option_map (changed_choices capping)
+        (choices.arms_items single (items_of (seen_fragments fragments.now)))) }
 {
     if fragments.is_empty() {
         return Ok(Some(no_choices(alloc)));
@@ -161,7 +170,9 @@ fn arms(alloc: Global, single: bool, fragments: &[Fragment]) -> Result<Option<Ch
 /// What stands between the brackets of a `select`.
 #[cycle(read)]
 fn head(alloc: Global, fragments: &[Fragment]) -> Result<Option<Head>, AllocError>
-    ensures { IfOk result (λ found. option_map read_head found ≡ option_map (changed_head capping) (choices.head_items (items_of (seen_fragments fragments.now)))) }
+    ensures { IfOk result (λ found. option_map read_head found
+        ≡ option_map (changed_head capping)
+        (choices.head_items (items_of (seen_fragments fragments.now)))) }
 {
     match head_shape(fragments) {
         HeadShape::Alone(selected) => Ok(alone(expression(alloc, Splitting::Tests, selected)?)),
@@ -177,7 +188,9 @@ fn head(alloc: Global, fragments: &[Fragment]) -> Result<Option<Head>, AllocErro
 /// `case`
 #[cycle(read)]
 pub fn case(alloc: Global, word: &Token, inner: &[Fragment]) -> Result<Option<Grown>, AllocError>
-    ensures { IfOk result (λ found. option_map read_grown found ≡ option_map capped (statement_items keywords.Case word.now (items_of (seen_fragments inner.now)))) }
+    ensures { IfOk result (λ found. option_map read_grown found
+        ≡ option_map capped (statement_items keywords.Case word.now
+        (items_of (seen_fragments inner.now)))) }
 {
     case_with(alloc, word, arms(alloc, true, inner)?)
 }
@@ -185,7 +198,9 @@ pub fn case(alloc: Global, word: &Token, inner: &[Fragment]) -> Result<Option<Gr
 /// `select`
 #[cycle(read)]
 pub fn select(alloc: Global, word: &Token, inner: &[Fragment]) -> Result<Option<Grown>, AllocError>
-    ensures { IfOk result (λ found. option_map read_grown found ≡ option_map capped (statement_items keywords.Select word.now (items_of (seen_fragments inner.now)))) }
+    ensures { IfOk result (λ found. option_map read_grown found
+        ≡ option_map capped (statement_items keywords.Select word.now
+        (items_of (seen_fragments inner.now)))) }
 {
     match headed(inner) {
         None => Ok(None),

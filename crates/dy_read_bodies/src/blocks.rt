@@ -14,29 +14,31 @@ ghost use Rattle.dy_rules.specs.SeenTypes.{seen_type};
 ghost use Rattle.dy_rules.specs.Trees as trees;
 ghost use Rattle.dy_rules_depth.specs.Changes.{changed_clause};
 ghost use Rattle.dy_rules_depth.specs.Capping.{capped, capping};
-ghost use Rattle.dy_read_statements.specs.BodyDepths.{BodyDepth, ClauseDepth, ClausesDepth};
-ghost use Rattle.dy_read_statements.specs.CaughtShapes.{block_read, block_to, clause_read, clause_to, read_caught};
+ghost use Rattle.dy_read_arms.specs.BodyDepths.{BodyDepth, ClauseDepth, ClausesDepth};
+ghost use Rattle.dy_read_statements.specs.CaughtShapes.{block_read, block_to, clause_read};
+ghost use Rattle.dy_read_statements.specs.CaughtShapes.{clause_to, read_caught};
 ghost use Rattle.dy_read_parts.specs.Front.{seen_front};
-ghost use Rattle.dy_read_operators.specs.Grown.{read_grown};
+ghost use Rattle.dy_read_outers.specs.Grown.{read_grown};
 ghost use Rattle.dy_read_parts.specs.Pieces.{others_in};
-ghost use Rattle.dy_read_statements.specs.ReadBodies.{read_clause, read_clauses, read_items};
+ghost use Rattle.dy_read_arms.specs.ReadBodies.{read_clause, read_clauses, read_items};
 
 use crate::bodies::body;
-use dy_read_operators::grown::Grown;
+use dy_read_arms::suits::suit_block;
+use dy_read_outers::grown::Grown;
 use dy_read_parts::cutting::split_piece;
+use dy_read_parts::depth::deepest;
 use dy_read_parts::front::{Front, headed};
 use dy_read_parts::mark::word_of;
 use dy_read_parts::names::exit_inside;
 use dy_read_parts::separator::Separator;
 use dy_read_statements::caught::{Caught, caught_items};
 use dy_read_statements::statement_nodes::statement_within;
-use dy_read_statements::suits::suit_block;
-use dy_read_types::depth::deepest;
 use dy_tree::{BlockClause, Fragment, Item, Splitter, Splitting, Statement, Token, TypeForm};
 use std::alloc::{AllocError, Global};
 
 fn afterwards_of(body: Vec<Item>) -> BlockClause
-    ensures { seen_clause result ≡ trees.afterwards_clause (trees.body_of (map seen_item body.items)) }
+    ensures { seen_clause result
+        ≡ trees.afterwards_clause (trees.body_of (map seen_item body.items)) }
 {
     BlockClause::Afterwards { body }
 }
@@ -48,7 +50,9 @@ fn cleanup_of(body: Vec<Item>) -> BlockClause
 }
 
 fn exception_of(variable: Option<Token>, condition: TypeForm, body: Vec<Item>) -> BlockClause
-    ensures { seen_clause result ≡ trees.exception_clause variable (seen_type condition) (trees.body_of (map seen_item body.items)) }
+    ensures { seen_clause result
+        ≡ trees.exception_clause variable (seen_type condition)
+        (trees.body_of (map seen_item body.items)) }
 {
     BlockClause::Exception {
         variable,
@@ -63,7 +67,9 @@ fn block_tree(
     body: Vec<Item>,
     clauses: Vec<BlockClause>,
 ) -> Statement
-    ensures { seen_statement result ≡ trees.block_tree word exit (trees.body_of (map seen_item body.items)) (trees.block_clauses_of (map seen_clause clauses.items)) }
+    ensures { seen_statement result
+        ≡ trees.block_tree word exit (trees.body_of (map seen_item body.items))
+        (trees.block_clauses_of (map seen_clause clauses.items)) }
 {
     Statement::Block {
         word,
@@ -75,7 +81,8 @@ fn block_tree(
 
 /// `afterwards`
 fn afterwards(body: Option<Vec<Item>>) -> Option<BlockClause>
-    ensures { option_map read_clause result ≡ option_map spec.afterwards_of (option_map read_items body) }
+    ensures { option_map read_clause result
+        ≡ option_map spec.afterwards_of (option_map read_items body) }
 {
     match body {
         Some(body) => Some(afterwards_of(body)),
@@ -85,7 +92,8 @@ fn afterwards(body: Option<Vec<Item>>) -> Option<BlockClause>
 
 /// `cleanup`
 fn cleanup(body: Option<Vec<Item>>) -> Option<BlockClause>
-    ensures { option_map read_clause result ≡ option_map spec.cleanup_of (option_map read_items body) }
+    ensures { option_map read_clause result
+        ≡ option_map spec.cleanup_of (option_map read_items body) }
 {
     match body {
         Some(body) => Some(cleanup_of(body)),
@@ -94,7 +102,8 @@ fn cleanup(body: Option<Vec<Item>>) -> Option<BlockClause>
 }
 
 fn exception_with(caught: Caught, body: Option<Vec<Item>>) -> Option<BlockClause>
-    ensures { option_map read_clause result ≡ clause_to (option_map read_items body) (read_caught caught) }
+    ensures { option_map read_clause result
+        ≡ clause_to (option_map read_items body) (read_caught caught) }
 {
     match body {
         Some(body) => Some(exception_of(caught.variable, caught.condition, body)),
@@ -104,7 +113,8 @@ fn exception_with(caught: Caught, body: Option<Vec<Item>>) -> Option<BlockClause
 
 /// `exception`
 fn exception(caught: Option<Caught>, body: Option<Vec<Item>>) -> Option<BlockClause>
-    ensures { option_map read_clause result ≡ clause_read (option_map read_caught caught) (option_map read_items body) }
+    ensures { option_map read_clause result
+        ≡ clause_read (option_map read_caught caught) (option_map read_items body) }
 {
     match caught {
         Some(caught) => exception_with(caught, body),
@@ -121,8 +131,10 @@ fn block_within(
     clauses: Vec<BlockClause>,
     inside: usize,
 ) -> Result<Grown, AllocError>
-    requires { inside ≡ max (measure.body_depth (trees.body_of (read_items body))) (measure.block_clauses_depth (trees.block_clauses_of (read_clauses clauses))) }
-    ensures { IfOk result (λ grown. read_grown grown ≡ capped (spec.block_of word.now exit (read_items body) (read_clauses clauses))) }
+    requires { inside ≡ max (measure.body_depth (trees.body_of (read_items body)))
+        (measure.block_clauses_depth (trees.block_clauses_of (read_clauses clauses))) }
+    ensures { IfOk result (λ grown. read_grown grown
+        ≡ capped (spec.block_of word.now exit (read_items body) (read_clauses clauses))) }
 {
     let tree = block_tree(word.copy()?, exit, body, clauses);
     statement_within(alloc, word, tree, inside)
@@ -137,8 +149,11 @@ fn block_suits(
     clauses: Vec<BlockClause>,
     inside: usize,
 ) -> Result<Option<Grown>, AllocError>
-    requires { inside ≡ max (measure.body_depth (trees.body_of (read_items body))) (measure.block_clauses_depth (trees.block_clauses_of (read_clauses clauses))) }
-    ensures { IfOk result (λ found. option_map read_grown found ≡ option_map capped (spec.block_suits word.now exit (read_items body) (read_clauses clauses))) }
+    requires { inside ≡ max (measure.body_depth (trees.body_of (read_items body)))
+        (measure.block_clauses_depth (trees.block_clauses_of (read_clauses clauses))) }
+    ensures { IfOk result (λ found. option_map read_grown found
+        ≡ option_map capped (spec.block_suits word.now exit (read_items body)
+        (read_clauses clauses))) }
 {
     if suit_block(&clauses) {
         Ok(Some(block_within(alloc, word, exit, body, clauses, inside)?))
@@ -155,7 +170,11 @@ fn exception_at(
     fragments: &[Fragment],
     depth: &mut usize,
 ) -> Result<Option<BlockClause>, AllocError>
-    ensures found { IfOk result (λ found. option_map read_clause found ≡ option_map (changed_clause capping) (clause_read (spec.caught_items (items_of (seen_fragments condition.now))) (body_items splittings.Endings (items_of (seen_fragments fragments.now))))) }
+    ensures found { IfOk result
+        (λ found. option_map read_clause found
+        ≡ option_map (changed_clause capping)
+        (clause_read (spec.caught_items (items_of (seen_fragments condition.now)))
+        (body_items splittings.Endings (items_of (seen_fragments fragments.now))))) }
     ensures depth { IfOk result (λ found. ClauseDepth depth.old depth.new found) }
 {
     let catches = caught_items(alloc, condition, depth)?;
@@ -170,7 +189,11 @@ fn exception_items(
     fragments: &[Fragment],
     depth: &mut usize,
 ) -> Result<Option<BlockClause>, AllocError>
-    ensures found { IfOk result (λ found. option_map read_clause found ≡ option_map (changed_clause capping) (option_and_then spec.exception_items (cutting.headed (items_of (seen_fragments fragments.now))))) }
+    ensures found { IfOk result
+        (λ found. option_map read_clause found
+        ≡ option_map (changed_clause capping)
+        (option_and_then spec.exception_items
+        (cutting.headed (items_of (seen_fragments fragments.now))))) }
     ensures depth { IfOk result (λ found. ClauseDepth depth.old depth.new found) }
 {
     match headed(fragments) {
@@ -187,7 +210,10 @@ fn block_clause(
     fragments: &[Fragment],
     depth: &mut usize,
 ) -> Result<Option<BlockClause>, AllocError>
-    ensures found { IfOk result (λ found. option_map read_clause found ≡ option_map (changed_clause capping) (spec.block_clause_at word (items_of (seen_fragments fragments.now)))) }
+    ensures found { IfOk result
+        (λ found. option_map read_clause found
+        ≡ option_map (changed_clause capping)
+        (spec.block_clause_at word (items_of (seen_fragments fragments.now)))) }
     ensures depth { IfOk result (λ found. ClauseDepth depth.old depth.new found) }
 {
     match word {
@@ -211,7 +237,11 @@ fn block_clauses(
     fragments: &[Fragment],
     depth: &mut usize,
 ) -> Result<Option<Vec<BlockClause>>, AllocError>
-    ensures found { IfOk result (λ found. option_map read_clauses found ≡ option_map (map (changed_clause capping)) (spec.block_clauses_in (others_in (is_splitter splittings.Endings) (seen_fragments fragments.now)))) }
+    ensures found { IfOk result
+        (λ found. option_map read_clauses found
+        ≡ option_map (map (changed_clause capping))
+        (spec.block_clauses_in (others_in (is_splitter splittings.Endings)
+        (seen_fragments fragments.now)))) }
     ensures depth { IfOk result (λ found. ClausesDepth depth.old depth.new found) }
 {
     let mut clauses = Vec::new(alloc);
@@ -239,7 +269,9 @@ fn with_clauses(
 ) -> Result<Option<Grown>, AllocError>
     requires body { in_body ≡ measure.body_depth (trees.body_of (read_items body)) }
     requires clauses { ClausesDepth 0 in_clauses clauses }
-    ensures { IfOk result (λ found. option_map read_grown found ≡ option_map capped (spec.block_body word.now exit (option_map read_clauses clauses) (read_items body))) }
+    ensures { IfOk result (λ found. option_map read_grown found
+        ≡ option_map capped (spec.block_body word.now exit (option_map read_clauses clauses)
+        (read_items body))) }
 {
     match clauses {
         Some(clauses) => block_suits(
@@ -266,7 +298,9 @@ fn with_body(
 ) -> Result<Option<Grown>, AllocError>
     requires body { BodyDepth 0 in_body body }
     requires clauses { ClausesDepth 0 in_clauses clauses }
-    ensures { IfOk result (λ found. option_map read_grown found ≡ option_map capped (block_to word.now (option_map read_items body) (option_map read_clauses clauses) exit)) }
+    ensures { IfOk result (λ found. option_map read_grown found
+        ≡ option_map capped (block_to word.now (option_map read_items body)
+        (option_map read_clauses clauses) exit)) }
 {
     match body {
         Some(body) => with_clauses(alloc, word, exit, body, clauses, in_body, in_clauses),
@@ -286,7 +320,9 @@ fn block_with(
 ) -> Result<Option<Grown>, AllocError>
     requires body { BodyDepth 0 in_body body }
     requires clauses { ClausesDepth 0 in_clauses clauses }
-    ensures { IfOk result (λ found. option_map read_grown found ≡ option_map capped (block_read word.now exit (option_map read_items body) (option_map read_clauses clauses))) }
+    ensures { IfOk result (λ found. option_map read_grown found
+        ≡ option_map capped (block_read word.now exit (option_map read_items body)
+        (option_map read_clauses clauses))) }
 {
     match exit {
         Some(exit) => with_body(alloc, word, exit, body, clauses, in_body, in_clauses),
@@ -297,7 +333,8 @@ fn block_with(
 /// A block whose exit stands between brackets.
 #[cycle(read)]
 fn block_at(alloc: Global, word: &Token, front: &Front<'_>) -> Result<Option<Grown>, AllocError>
-    ensures { IfOk result (λ found. option_map read_grown found ≡ option_map capped (spec.block_items word.now (seen_front front.now))) }
+    ensures { IfOk result (λ found. option_map read_grown found
+        ≡ option_map capped (spec.block_items word.now (seen_front front.now))) }
 {
     let (first, others) = split_piece(Separator::Splitter(Splitting::Endings), false, front.rest);
     let exit = exit_inside(front)?;
@@ -311,7 +348,9 @@ fn block_at(alloc: Global, word: &Token, front: &Front<'_>) -> Result<Option<Gro
 /// The block between its word and its `end`.
 #[cycle(read)]
 pub fn block(alloc: Global, word: &Token, inner: &[Fragment]) -> Result<Option<Grown>, AllocError>
-    ensures { IfOk result (λ found. option_map read_grown found ≡ option_map capped (option_and_then (spec.block_items word.now) (cutting.headed (items_of (seen_fragments inner.now))))) }
+    ensures { IfOk result (λ found. option_map read_grown found
+        ≡ option_map capped (option_and_then (spec.block_items word.now)
+        (cutting.headed (items_of (seen_fragments inner.now))))) }
 {
     match headed(inner) {
         Some(front) => block_at(alloc, word, &front),

@@ -12,25 +12,28 @@ ghost use Rattle.dy_rules.specs.Trees as trees;
 ghost use Rattle.dy_rules.specs.TypeReading.{target_items, type_items};
 ghost use Rattle.dy_rules_depth.specs.Changes.{changed_item, changed_method};
 ghost use Rattle.dy_rules_depth.specs.Capping.{capping};
-ghost use Rattle.dy_read_statements.specs.BodyDepths.{BodyDepth, ItemDepth, MethodDepth, MethodsDepth, TargetDepth};
-ghost use Rattle.dy_read_operators.specs.Grown.{read_grown};
-ghost use Rattle.dy_read_shapes.specs.ItemShapes.{let_to, let_read, handler_to, handler_read, methods_items};
+ghost use Rattle.dy_read_arms.specs.BodyDepths.{BodyDepth, ItemDepth, MethodDepth};
+ghost use Rattle.dy_read_arms.specs.BodyDepths.{MethodsDepth, TargetDepth};
+ghost use Rattle.dy_read_outers.specs.Grown.{read_grown};
+ghost use Rattle.dy_read_shapes.specs.ItemShapes.{let_to, let_read, handler_to, handler_read};
+ghost use Rattle.dy_read_shapes.specs.ItemShapes.{methods_items};
 ghost use Rattle.dy_read_parts.specs.Nesting.{nesting};
 ghost use Rattle.dy_read_parts.specs.Pieces.{seen_slice, IsWithin, unless_empty};
-ghost use Rattle.dy_read_statements.specs.ReadBodies.{read_item, read_items, read_method, read_methods, read_target};
+ghost use Rattle.dy_read_arms.specs.ReadBodies.{read_item, read_items, read_method};
+ghost use Rattle.dy_read_arms.specs.ReadBodies.{read_methods, read_target};
 ghost use Rattle.dy_read_statements.specs.ReadMethods.{read_named, method_of_parts, NamedDepth};
 ghost use Rattle.dy_read_types.specs.TypeCaps.{read_type};
 ghost use Rattle.dy_read_types.specs.TypeFronts.{TypeDepth};
 
 use crate::expressions::expression;
 use crate::methods::named_method;
-use dy_read_operators::grown::Grown;
+use dy_read_outers::grown::Grown;
 use dy_read_parts::cutting::{behind_first, split_piece};
+use dy_read_parts::depth::{deepen, deepest};
 use dy_read_parts::separator::Separator;
 use dy_read_parts::trim::without_end;
 use dy_read_shapes::item_shape::{ItemShape, MethodGroup, item_shape, method_alone};
 use dy_read_statements::method_read::NamedRead;
-use dy_read_types::depth::{deepen, deepest};
 use dy_read_types::targets::target_items;
 use dy_read_types::types::type_items;
 use dy_tree::{
@@ -67,7 +70,8 @@ fn let_within(
     depth: &mut usize,
 ) -> Item
     requires { inside ≡ measure.target_depth (read_target target) }
-    ensures read { read_item result ≡ trees.let_item word (read_target target) (read_grown assigned) }
+    ensures read { read_item result
+        ≡ trees.let_item word (read_target target) (read_grown assigned) }
     ensures depth { depth.new ≡ max depth.old (measure.item_depth (read_item result)) }
 {
     let inside = deepest(inside, assigned.depth);
@@ -83,7 +87,8 @@ fn let_with(
     depth: &mut usize,
 ) -> Option<Item>
     requires { inside ≡ measure.target_depth (read_target target) }
-    ensures found { option_map read_item result ≡ let_to word (option_map read_grown assigned) (read_target target) }
+    ensures found { option_map read_item result
+        ≡ let_to word (option_map read_grown assigned) (read_target target) }
     ensures depth { ItemDepth depth.old depth.new result }
 {
     match assigned {
@@ -101,7 +106,8 @@ fn handler_within(
     depth: &mut usize,
 ) -> Item
     requires { inside ≡ measure.type_depth (read_type condition) }
-    ensures read { read_item result ≡ trees.handler_item word (read_type condition) (read_grown handler) }
+    ensures read { read_item result
+        ≡ trees.handler_item word (read_type condition) (read_grown handler) }
     ensures depth { depth.new ≡ max depth.old (measure.item_depth (read_item result)) }
 {
     let inside = deepest(inside, handler.depth);
@@ -117,7 +123,8 @@ fn handler_with(
     depth: &mut usize,
 ) -> Option<Item>
     requires { inside ≡ measure.type_depth (read_type condition) }
-    ensures found { option_map read_item result ≡ handler_to word (option_map read_grown handler) (read_type condition) }
+    ensures found { option_map read_item result
+        ≡ handler_to word (option_map read_grown handler) (read_type condition) }
     ensures depth { ItemDepth depth.old depth.new result }
 {
     match handler {
@@ -128,7 +135,8 @@ fn handler_with(
 
 /// An expression as an item.
 fn expression_item(found: Option<Grown>, depth: &mut usize) -> Option<Item>
-    ensures found { option_map read_item result ≡ option_map trees.expression_item (option_map read_grown found) }
+    ensures found { option_map read_item result
+        ≡ option_map trees.expression_item (option_map read_grown found) }
     ensures depth { ItemDepth depth.old depth.new result }
 {
     match found {
@@ -142,7 +150,9 @@ fn expression_item(found: Option<Grown>, depth: &mut usize) -> Option<Item>
 
 /// A local method.
 fn method_of(word: Token, name: Token, parameters: Parameters, body: Vec<Item>) -> LocalMethod
-    ensures { seen_method result ≡ trees.local_method word name (seen_parameters parameters) (trees.body_of (map seen_item body.items)) }
+    ensures { seen_method result
+        ≡ trees.local_method word name (seen_parameters parameters)
+        (trees.body_of (map seen_item body.items)) }
 {
     LocalMethod {
         word,
@@ -154,7 +164,8 @@ fn method_of(word: Token, name: Token, parameters: Parameters, body: Vec<Item>) 
 
 /// Local methods as an item.
 fn local_of(word: Token, methods: Vec<LocalMethod>) -> Item
-    ensures { seen_item result ≡ trees.local_item word (trees.methods_of (map seen_method methods.items)) }
+    ensures { seen_item result
+        ≡ trees.local_item word (trees.methods_of (map seen_method methods.items)) }
 {
     Item::Local { word, methods }
 }
@@ -167,7 +178,8 @@ fn named_of(word: Token, named: NamedRead) -> LocalMethod
 }
 
 fn named_with(word: &Token, named: Option<NamedRead>) -> Result<Option<LocalMethod>, AllocError>
-    ensures { IfOk result (λ found. option_map read_method found ≡ option_map (method_of_parts word.now) (option_map read_named named)) }
+    ensures { IfOk result (λ found. option_map read_method found
+        ≡ option_map (method_of_parts word.now) (option_map read_named named)) }
 {
     match named {
         Some(named) => Ok(Some(named_of(word.copy()?, named))),
@@ -183,7 +195,8 @@ fn local_within(word: &Token, methods: Vec<LocalMethod>) -> Result<Item, AllocEr
 }
 
 fn local_with(word: &Token, methods: Option<Vec<LocalMethod>>) -> Result<Option<Item>, AllocError>
-    ensures { IfOk result (λ found. option_map read_item found ≡ option_map (spec.local_of word.now) (option_map read_methods methods)) }
+    ensures { IfOk result (λ found. option_map read_item found
+        ≡ option_map (spec.local_of word.now) (option_map read_methods methods)) }
 {
     match methods {
         Some(methods) => Ok(Some(local_within(word, methods)?)),
@@ -212,7 +225,11 @@ fn let_sides(
     after: &[Fragment],
     depth: &mut usize,
 ) -> Result<Option<Item>, AllocError>
-    ensures found { IfOk result (λ found. option_map read_item found ≡ option_map (changed_item capping) (let_read word.now (target_items (items_of (seen_fragments before.now))) (expression_items words (items_of (seen_fragments after.now))))) }
+    ensures found { IfOk result
+        (λ found. option_map read_item found
+        ≡ option_map (changed_item capping)
+        (let_read word.now (target_items (items_of (seen_fragments before.now)))
+        (expression_items words (items_of (seen_fragments after.now))))) }
     ensures depth { IfOk result (λ found. ItemDepth depth.old depth.new found) }
 {
     let mut inside = 0;
@@ -235,7 +252,11 @@ fn handler_sides(
     after: &[Fragment],
     depth: &mut usize,
 ) -> Result<Option<Item>, AllocError>
-    ensures found { IfOk result (λ found. option_map read_item found ≡ option_map (changed_item capping) (handler_read word.now (type_items (items_of (seen_fragments before.now))) (expression_items words (items_of (seen_fragments after.now))))) }
+    ensures found { IfOk result
+        (λ found. option_map read_item found
+        ≡ option_map (changed_item capping)
+        (handler_read word.now (type_items (items_of (seen_fragments before.now)))
+        (expression_items words (items_of (seen_fragments after.now))))) }
     ensures depth { IfOk result (λ found. ItemDepth depth.old depth.new found) }
 {
     let mut inside = 0;
@@ -255,7 +276,10 @@ fn local_method(
     fragments: &[Fragment],
     depth: &mut usize,
 ) -> Result<Option<LocalMethod>, AllocError>
-    ensures found { IfOk result (λ found. option_map read_method found ≡ option_map (changed_method capping) (spec.method_alone (items_of (seen_fragments fragments.now)))) }
+    ensures found { IfOk result
+        (λ found. option_map read_method found
+        ≡ option_map (changed_method capping)
+        (spec.method_alone (items_of (seen_fragments fragments.now)))) }
     ensures depth { IfOk result (λ found. MethodDepth depth.old depth.new found) }
 {
     match method_alone(fragments) {
@@ -274,7 +298,10 @@ fn local_methods(
     fragments: &[Fragment],
     depth: &mut usize,
 ) -> Result<Option<Vec<LocalMethod>>, AllocError>
-    ensures found { IfOk result (λ found. option_map read_methods found ≡ option_map (map (changed_method capping)) (methods_items (items_of (seen_fragments fragments.now)))) }
+    ensures found { IfOk result
+        (λ found. option_map read_methods found
+        ≡ option_map (map (changed_method capping))
+        (methods_items (items_of (seen_fragments fragments.now)))) }
     ensures depth { IfOk result (λ found. MethodsDepth depth.old depth.new found) }
 {
     let mut methods = Vec::new(alloc);
@@ -298,7 +325,11 @@ fn local(
     fragments: &[Fragment],
     depth: &mut usize,
 ) -> Result<Option<Item>, AllocError>
-    ensures found { IfOk result (λ found. option_map read_item found ≡ option_map (changed_item capping) (option_map (spec.local_of word.now) (methods_items (items_of (seen_fragments fragments.now))))) }
+    ensures found { IfOk result
+        (λ found. option_map read_item found
+        ≡ option_map (changed_item capping)
+        (option_map (spec.local_of word.now)
+        (methods_items (items_of (seen_fragments fragments.now))))) }
     ensures depth { IfOk result (λ found. ItemDepth depth.old depth.new found) }
 {
     let methods = local_methods(alloc, fragments, depth)?;
@@ -313,7 +344,10 @@ pub fn item(
     fragments: &[Fragment],
     depth: &mut usize,
 ) -> Result<Option<Item>, AllocError>
-    ensures found { IfOk result (λ found. option_map read_item found ≡ option_map (changed_item capping) (spec.item_items words (items_of (seen_fragments fragments.now)))) }
+    ensures found { IfOk result
+        (λ found. option_map read_item found
+        ≡ option_map (changed_item capping)
+        (spec.item_items words (items_of (seen_fragments fragments.now)))) }
     ensures depth { IfOk result (λ found. ItemDepth depth.old depth.new found) }
 {
     match item_shape(words, fragments) {
@@ -341,7 +375,10 @@ pub fn body(
     fragments: &[Fragment],
     depth: &mut usize,
 ) -> Result<Option<Vec<Item>>, AllocError>
-    ensures found { IfOk result (λ found. option_map read_items found ≡ option_map (map (changed_item capping)) (spec.body_items words (items_of (seen_fragments fragments.now)))) }
+    ensures found { IfOk result
+        (λ found. option_map read_items found
+        ≡ option_map (map (changed_item capping))
+        (spec.body_items words (items_of (seen_fragments fragments.now)))) }
     ensures depth { IfOk result (λ found. BodyDepth depth.old depth.new found) }
 {
     let mut items = Vec::new(alloc);

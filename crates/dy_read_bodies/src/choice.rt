@@ -10,22 +10,22 @@ ghost use Rattle.dy_rules.specs.Trees as trees;
 ghost use Rattle.dy_rules_depth.specs.Capping.{capped};
 ghost use Rattle.dy_read_statements.specs.Branches.{read_others, capped_others};
 ghost use Rattle.dy_read_parts.specs.Cut.{seen_piece};
-ghost use Rattle.dy_read_operators.specs.Grown.{read_grown};
+ghost use Rattle.dy_read_outers.specs.Grown.{read_grown};
 ghost use Rattle.dy_read_statements.specs.ReadBranches as spec;
-ghost use Rattle.dy_read_statements.specs.ReadBodies.{read_items};
-ghost use Rattle.dy_read_statements.specs.BodyDepths.{BodyDepth};
+ghost use Rattle.dy_read_arms.specs.ReadBodies.{read_items};
+ghost use Rattle.dy_read_arms.specs.BodyDepths.{BodyDepth};
 ghost use Rattle.dy_read_statements.specs.ReadStatements.{both, all_three};
 
 use crate::bodies::body;
 use crate::expressions::expression;
-use dy_read_operators::grown::Grown;
+use dy_read_outers::grown::Grown;
+use dy_read_parts::depth::deepest;
 use dy_read_parts::pieces::{Piece, cut};
 use dy_read_parts::separator::Separator;
 use dy_read_statements::branch::{Branch, branch_at};
 use dy_read_statements::others::Others;
 use dy_read_statements::statement_nodes::{if_tree, statement_within};
 use dy_read_statements::tested::tested;
-use dy_read_types::depth::deepest;
 use dy_tree::{Alternative, Fragment, Item, Splitting, Token};
 use std::alloc::{AllocError, Global};
 
@@ -37,7 +37,8 @@ fn alternative_with(
     depth: &mut usize,
 ) -> Option<Alternative>
     requires { BodyDepth 0 inside body }
-    ensures found { option_map spec.read_alternative result ≡ both spec.alternative_of (option_map read_grown test) (option_map read_items body) }
+    ensures found { option_map spec.read_alternative result
+        ≡ both spec.alternative_of (option_map read_grown test) (option_map read_items body) }
     ensures depth { spec.AlternativeDepth depth.old depth.new result }
 {
     let Some(test) = test else {
@@ -62,7 +63,10 @@ fn alternative(
     fragments: &[Fragment],
     depth: &mut usize,
 ) -> Result<Option<Alternative>, AllocError>
-    ensures found { IfOk result (λ found. option_map spec.read_alternative found ≡ option_map spec.capped_alternative (spec.alternative_items (items_of (seen_fragments fragments.now)))) }
+    ensures found { IfOk result
+        (λ found. option_map spec.read_alternative found
+        ≡ option_map spec.capped_alternative
+        (spec.alternative_items (items_of (seen_fragments fragments.now)))) }
     ensures depth { IfOk result (λ found. spec.AlternativeDepth depth.old depth.new found) }
 {
     match tested(fragments) {
@@ -83,7 +87,9 @@ fn with_last(
     depth: usize,
 ) -> Option<Others>
     requires { spec.LastDepth depth alternatives.items body }
-    ensures { option_map read_others result ≡ option_map (spec.others_with (map spec.read_alternative alternatives.items)) (option_map read_items body) }
+    ensures { option_map read_others result
+        ≡ option_map (spec.others_with (map spec.read_alternative alternatives.items))
+        (option_map read_items body) }
 {
     match body {
         Some(body) => Some(Others {
@@ -99,7 +105,8 @@ fn with_last(
 #[cycle(read)]
 #[tactic(auto, using(dy_read_statements::proofs::Branches::before_none, dy_read_statements::proofs::Branches::none_begins, dy_read_statements::proofs::Branches::not_last))]
 fn others(alloc: Global, pieces: &[Piece<'_>]) -> Result<Option<Others>, AllocError>
-    ensures { IfOk result (λ found. option_map read_others found ≡ capped_others (map seen_piece pieces.now)) }
+    ensures { IfOk result (λ found. option_map read_others found
+        ≡ capped_others (map seen_piece pieces.now)) }
 {
     let mut alternatives = Vec::new(alloc);
     let mut depth = 0;
@@ -138,7 +145,8 @@ fn if_within(
     others: Others,
 ) -> Result<Grown, AllocError>
     requires { inside ≡ measure.body_depth (trees.body_of (read_items body)) }
-    ensures { IfOk result (λ grown. read_grown grown ≡ spec.capped_if word.now (read_grown test) (read_items body) (read_others others)) }
+    ensures { IfOk result (λ grown. read_grown grown
+        ≡ spec.capped_if word.now (read_grown test) (read_items body) (read_others others)) }
 {
     let inside = deepest(deepest(test.depth, inside), others.depth);
     let tree = if_tree(
@@ -160,7 +168,9 @@ fn if_with(
     others: Option<Others>,
 ) -> Result<Option<Grown>, AllocError>
     requires { BodyDepth 0 inside body }
-    ensures { IfOk result (λ found. option_map read_grown found ≡ all_three (spec.capped_if word.now) (option_map read_grown test) (option_map read_items body) (option_map read_others others)) }
+    ensures { IfOk result (λ found. option_map read_grown found
+        ≡ all_three (spec.capped_if word.now) (option_map read_grown test)
+        (option_map read_items body) (option_map read_others others)) }
 {
     let Some(test) = test else {
         return Ok(None);
@@ -181,7 +191,9 @@ pub fn if_statement(
     word: &Token,
     inner: &[Fragment],
 ) -> Result<Option<Grown>, AllocError>
-    ensures { IfOk result (λ found. option_map read_grown found ≡ option_map capped (statement_items keywords.If word.now (items_of (seen_fragments inner.now)))) }
+    ensures { IfOk result (λ found. option_map read_grown found
+        ≡ option_map capped (statement_items keywords.If word.now
+        (items_of (seen_fragments inner.now)))) }
 {
     match tested(inner) {
         None => Ok(None),

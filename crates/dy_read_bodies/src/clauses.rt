@@ -9,7 +9,8 @@ ghost use Rattle.dy_rules_depth.specs.Changes.{changed_for};
 ghost use Rattle.dy_rules_depth.specs.ReaderChanges.{changed_loop};
 ghost use Rattle.dy_rules_depth.specs.Capping.{capping};
 ghost use Rattle.dy_read_types.specs.Endings.{parts_before};
-ghost use Rattle.dy_read_statements.specs.LoopHeads.{read_head, capped_last, capped_parts, fors_depth, HeadDepth};
+ghost use Rattle.dy_read_statements.specs.LoopHeads.{read_head, capped_last, capped_parts};
+ghost use Rattle.dy_read_statements.specs.LoopHeads.{fors_depth, HeadDepth};
 ghost use Rattle.dy_read_shapes.specs.LoopShapes as spec;
 ghost use Rattle.dy_read_statements.specs.ReadLoops.{read_range, read_for, read_fors, ForDepth};
 ghost use Rattle.dy_read_types.specs.VariableFronts.{read_variable};
@@ -63,8 +64,13 @@ fn clause_of(
     parts: ClauseParts,
     depth: &mut usize,
 ) -> Result<Option<ForClause>, AllocError>
-    ensures found { IfOk result (λ found. option_map read_for found ≡ spec.parts_read (read_variable variable) parts.entry) }
-    ensures depth { IfOk result (λ found. (outer : ℕ) → depth.old ≡ max outer (measure.variable_depth (read_variable variable)) → ForDepth outer depth.new found) }
+    ensures found { IfOk result
+        (λ found. option_map read_for found
+        ≡ spec.parts_read (read_variable variable) parts.entry) }
+    ensures depth { IfOk result
+        (λ found. (outer : ℕ) → depth.old
+        ≡ max outer (measure.variable_depth (read_variable variable))
+        → ForDepth outer depth.new found) }
 {
     match parts {
         ClauseParts::Nothing => Ok(None),
@@ -95,7 +101,10 @@ fn for_clause(
     fragments: &[Fragment],
     depth: &mut usize,
 ) -> Result<Option<ForClause>, AllocError>
-    ensures found { IfOk result (λ found. option_map read_for found ≡ option_map (changed_for capping) (loops.clause_items (items_of (seen_fragments fragments.now)))) }
+    ensures found { IfOk result
+        (λ found. option_map read_for found
+        ≡ option_map (changed_for capping)
+        (loops.clause_items (items_of (seen_fragments fragments.now)))) }
     ensures depth { IfOk result (λ found. ForDepth depth.old depth.new found) }
 {
     match clause_shape(alloc, fragments, depth)? {
@@ -112,8 +121,12 @@ fn last_part(
     fragments: &[Fragment],
     depth: &mut usize,
 ) -> Result<Option<ForHead>, AllocError>
-    ensures found { IfOk result (λ found. option_map read_head found ≡ parts_before (read_fors clauses.items) (capped_last (seen_fragments fragments.now))) }
-    ensures depth { IfOk result (λ found. (outer : ℕ) → depth.old ≡ max outer (fors_depth clauses.items) → HeadDepth outer depth.new found) }
+    ensures found { IfOk result
+        (λ found. option_map read_head found
+        ≡ parts_before (read_fors clauses.items) (capped_last (seen_fragments fragments.now))) }
+    ensures depth { IfOk result
+        (λ found. (outer : ℕ) → depth.old ≡ max outer (fors_depth clauses.items)
+        → HeadDepth outer depth.new found) }
 {
     match last_shape(fragments) {
         LastShape::Stop { keyword, test } => {
@@ -135,7 +148,8 @@ fn head_parts(
     fragments: &[Fragment],
     depth: &mut usize,
 ) -> Result<Option<ForHead>, AllocError>
-    ensures found { IfOk result (λ found. option_map read_head found ≡ capped_parts (seen_fragments fragments.now)) }
+    ensures found { IfOk result
+        (λ found. option_map read_head found ≡ capped_parts (seen_fragments fragments.now)) }
     ensures depth { IfOk result (λ found. HeadDepth depth.old depth.new found) }
 {
     let mut clauses = Vec::new(alloc);
@@ -157,7 +171,10 @@ pub fn for_clauses(
     fragments: &[Fragment],
     depth: &mut usize,
 ) -> Result<Option<ForHead>, AllocError>
-    ensures found { IfOk result (λ found. option_map read_head found ≡ option_map (changed_loop capping) (loops.for_items (items_of (seen_fragments fragments.now)))) }
+    ensures found { IfOk result
+        (λ found. option_map read_head found
+        ≡ option_map (changed_loop capping)
+        (loops.for_items (items_of (seen_fragments fragments.now)))) }
     ensures depth { IfOk result (λ found. HeadDepth depth.old depth.new found) }
 {
     if fragments.is_empty() {

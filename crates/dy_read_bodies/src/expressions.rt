@@ -7,16 +7,16 @@ ghost use Rattle.dy_rules.specs.Reading as reading;
 ghost use Rattle.dy_rules_depth.specs.Changes.{changed_argument};
 ghost use Rattle.dy_rules_depth.specs.Capping.{capped, capping};
 ghost use Rattle.dy_rules_depth.specs.ReaderChanges.{changed_passing, changed_state};
-ghost use Rattle.dy_read_operators.specs.Grown.{read_grown};
+ghost use Rattle.dy_read_outers.specs.Grown.{read_grown};
+ghost use Rattle.dy_read_outers.specs.Passed.{read_passed};
 ghost use Rattle.dy_read_operators.specs.Machines.{seen_machine, passed_if, tree_if};
-ghost use Rattle.dy_read_operators.specs.Passed.{read_passed};
 ghost use Rattle.dy_read_operators.specs.Passings.{seen_passing};
 
 use crate::statement::inside;
-use dy_read_operators::grown::Grown;
-use dy_read_operators::passed::Passed;
 use dy_read_operators::passing::Passing;
 use dy_read_operators::state::{Machine, Need};
+use dy_read_outers::grown::Grown;
+use dy_read_outers::passed::Passed;
 use dy_read_parts::part::{Part, part_of};
 use dy_read_parts::value::begins_value;
 use dy_tree::{Bracket, Fragment, Splitting, Token};
@@ -38,8 +38,15 @@ fn within(
     opener: &Token,
     inner: &[Fragment],
 ) -> Result<InsideRead, AllocError>
-    ensures tree { IfOk result (λ found. option_map read_grown found.tree ≡ option_map capped (tree_if need (tree_inside bracket opener.now (pack (seen_fragments inner.now)) (items_of (seen_fragments inner.now))))) }
-    ensures passed { IfOk result (λ found. option_map read_passed found.passed ≡ option_map (map (changed_argument capping)) (passed_if need (reading.passed_items (items_of (seen_fragments inner.now))))) }
+    ensures tree { IfOk result
+        (λ found. option_map read_grown found.tree
+        ≡ option_map capped (tree_if need
+        (tree_inside bracket opener.now (pack (seen_fragments inner.now))
+        (items_of (seen_fragments inner.now))))) }
+    ensures passed { IfOk result
+        (λ found. option_map read_passed found.passed
+        ≡ option_map (map (changed_argument capping))
+        (passed_if need (reading.passed_items (items_of (seen_fragments inner.now))))) }
 {
     match need {
         Need::Nothing => Ok(InsideRead {
@@ -65,7 +72,9 @@ fn after_fragment(
     machine: Machine,
     fragment: &Fragment,
 ) -> Result<Option<Machine>, AllocError>
-    ensures { IfOk result (λ next. option_map seen_machine next ≡ option_map (changed_state capping) (reading.after_item words (seen_machine machine) (item_of (seen_fragment fragment.now)))) }
+    ensures { IfOk result (λ next. option_map seen_machine next
+        ≡ option_map (changed_state capping)
+        (reading.after_item words (seen_machine machine) (item_of (seen_fragment fragment.now)))) }
 {
     match part_of(fragment) {
         Part::One(token) => machine.token(alloc, words, token),
@@ -88,7 +97,9 @@ pub fn expression(
     words: Splitting,
     fragments: &[Fragment],
 ) -> Result<Option<Grown>, AllocError>
-    ensures { IfOk result (λ found. option_map read_grown found ≡ option_map capped (reading.expression_items words (items_of (seen_fragments fragments.now)))) }
+    ensures { IfOk result (λ found. option_map read_grown found
+        ≡ option_map capped (reading.expression_items words
+        (items_of (seen_fragments fragments.now)))) }
 {
     let mut machine = Machine::new(alloc);
     for fragment in fragments {
@@ -107,7 +118,10 @@ fn after_argument(
     reader: Passing,
     fragment: &Fragment,
 ) -> Result<Option<Passing>, AllocError>
-    ensures { IfOk result (λ next. option_map seen_passing next ≡ option_map (changed_passing capping) (reading.after_argument (seen_passing reader) (seen_fragment fragment.now) (item_of (seen_fragment fragment.now)))) }
+    ensures { IfOk result (λ next. option_map seen_passing next
+        ≡ option_map (changed_passing capping)
+        (reading.after_argument (seen_passing reader) (seen_fragment fragment.now)
+        (item_of (seen_fragment fragment.now)))) }
 {
     match part_of(fragment) {
         Part::One(token) => reader.token(alloc, token),
@@ -127,7 +141,9 @@ fn after_argument(
 /// The arguments that fragments stand for.
 #[cycle(read)]
 fn arguments(alloc: Global, fragments: &[Fragment]) -> Result<Option<Passed>, AllocError>
-    ensures { IfOk result (λ found. option_map read_passed found ≡ option_map (map (changed_argument capping)) (reading.passed_items (items_of (seen_fragments fragments.now)))) }
+    ensures { IfOk result (λ found. option_map read_passed found
+        ≡ option_map (map (changed_argument capping))
+        (reading.passed_items (items_of (seen_fragments fragments.now)))) }
 {
     let mut reader = Passing::new();
     for fragment in fragments {

@@ -9,13 +9,13 @@ ghost use Rattle.dy_rules.specs.Fragments.{items_of};
 ghost use Rattle.dy_rules.specs.Loops as loops;
 ghost use Rattle.dy_rules.specs.StatementReading as statements;
 ghost use Rattle.dy_rules_depth.specs.Capping.{capped};
-ghost use Rattle.dy_read_operators.specs.Grown.{read_grown};
+ghost use Rattle.dy_read_outers.specs.Grown.{read_grown};
 ghost use Rattle.dy_read_shapes.specs.LoopShapes.{finally_read};
 ghost use Rattle.dy_read_statements.specs.Loops.{read_last, loop_at, LastDepth};
 
 use crate::bodies::body;
 use crate::clauses::for_clauses;
-use dy_read_operators::grown::Grown;
+use dy_read_outers::grown::Grown;
 use dy_read_parts::front::headed;
 use dy_read_parts::pieces::cut;
 use dy_read_parts::separator::Separator;
@@ -52,7 +52,10 @@ fn loop_behind(
     head: &[Fragment],
     rest: &[Fragment],
 ) -> Result<Option<Grown>, AllocError>
-    ensures { IfOk result (λ found. option_map read_grown found ≡ option_map capped (loop_at word.now (loops.for_items (items_of (seen_fragments head.now))) (cutting.cut (cutting.is_splitter splittings.LastPart) false (items_of (seen_fragments rest.now))))) }
+    ensures { IfOk result (λ found. option_map read_grown found
+        ≡ option_map capped (loop_at word.now (loops.for_items (items_of (seen_fragments head.now)))
+        (cutting.cut (cutting.is_splitter splittings.LastPart) false
+        (items_of (seen_fragments rest.now))))) }
 {
     let pieces = cut(alloc, Separator::Splitter(Splitting::LastPart), false, rest)?;
     let mut depth = 0;
@@ -69,7 +72,9 @@ pub fn for_loop(
     word: &Token,
     inner: &[Fragment],
 ) -> Result<Option<Grown>, AllocError>
-    ensures { IfOk result (λ found. option_map read_grown found ≡ option_map capped (statements.statement_items keywords.For word.now (items_of (seen_fragments inner.now)))) }
+    ensures { IfOk result (λ found. option_map read_grown found
+        ≡ option_map capped (statements.statement_items keywords.For word.now
+        (items_of (seen_fragments inner.now)))) }
 {
     match headed(inner) {
         Some(front) => loop_behind(alloc, word, front.inner, front.rest),

@@ -9,20 +9,22 @@ ghost use Rattle.dy_rules.specs.Trees.{keys_of};
 ghost use Rattle.dy_read_types.specs.Endings.{parts_before, last_part};
 ghost use Rattle.dy_rules.specs.Fragments.{items_of};
 ghost use Rattle.dy_rules.specs.Signatures as signatures;
-ghost use Rattle.dy_read_operators.specs.Grown.{read_grown};
+ghost use Rattle.dy_read_outers.specs.Grown.{read_grown};
 ghost use Rattle.dy_read_parts.specs.Nesting.{nesting};
-ghost use Rattle.dy_read_shapes.specs.ReadKeys.{label_token, read_default, capped_default, read_key, read_each_key, capped_key, read_keys, capped_keys, KeyDepth, KeysDepth};
+ghost use Rattle.dy_read_shapes.specs.ReadKeys.{label_token, read_default, capped_default};
+ghost use Rattle.dy_read_shapes.specs.ReadKeys.{read_key, read_each_key, capped_key, read_keys};
+ghost use Rattle.dy_read_shapes.specs.ReadKeys.{capped_keys, KeyDepth, KeysDepth};
 ghost use Rattle.dy_read_shapes.specs.KeyEndings.{keys_tree, keys_last, keys_behind};
 ghost use Rattle.dy_read_shapes.specs.ReadKeys as spec;
 ghost use Rattle.dy_read_types.specs.VariableFronts.{read_variable};
 
 use crate::expressions::expression;
-use dy_read_operators::grown::Grown;
+use dy_read_outers::grown::Grown;
+use dy_read_parts::depth::deepen;
 use dy_read_parts::separator::Separator;
 use dy_read_shapes::initial::{Initial, initial_in};
 use dy_read_shapes::keys_read::KeysRead;
 use dy_read_shapes::keys_shape::{KeysShape, keys_shape};
-use dy_read_types::depth::deepen;
 use dy_read_types::division::divide;
 use dy_read_types::variables::variable_front;
 use dy_read_words::alone::token_of;
@@ -40,8 +42,11 @@ struct Labelled<'a> {
 
 /// The symbol in front of a key, and what stands behind it.
 fn label_in(fragments: &[Fragment]) -> Labelled<'_>
-    ensures label { signatures.key_items (items_of (seen_fragments fragments.now)) ≡ signatures.key_from (label_token result.label) (items_of (seen_fragments result.rest.now)) }
-    ensures nested { nesting (seen_fragments result.rest.now) ≤ nesting (seen_fragments fragments.now) }
+    ensures label { signatures.key_items (items_of (seen_fragments fragments.now))
+        ≡ signatures.key_from (label_token result.label)
+        (items_of (seen_fragments result.rest.now)) }
+    ensures nested { nesting (seen_fragments result.rest.now) ≤ nesting
+        (seen_fragments fragments.now) }
 {
     match fragments.split_first() {
         Some((first, rest)) => match token_of(first) {
@@ -69,7 +74,8 @@ fn label_in(fragments: &[Fragment]) -> Labelled<'_>
 
 /// The default value that an expression is.
 fn initial_of(value: Option<Grown>) -> Option<Option<Grown>>
-    ensures { option_map read_default result ≡ option_map signatures.initial_of (option_map read_grown value) }
+    ensures { option_map read_default result
+        ≡ option_map signatures.initial_of (option_map read_grown value) }
 {
     match value {
         Some(value) => Some(Some(value)),
@@ -83,7 +89,9 @@ pub fn initial_items(
     alloc: Global,
     fragments: &[Fragment],
 ) -> Result<Option<Option<Grown>>, AllocError>
-    ensures { IfOk result (λ found. option_map read_default found ≡ option_map capped_default (signatures.initial_items (items_of (seen_fragments fragments.now)))) }
+    ensures { IfOk result (λ found. option_map read_default found
+        ≡ option_map capped_default
+        (signatures.initial_items (items_of (seen_fragments fragments.now)))) }
 {
     match initial_in(fragments) {
         Initial::Absent => Ok(Some(None)),
@@ -108,7 +116,8 @@ fn with_default(
     default: Option<Grown>,
     depth: &mut usize,
 ) -> Key
-    ensures key { read_key result ≡ signatures.key_of keyword (read_variable variable) (read_default default) }
+    ensures key { read_key result
+        ≡ signatures.key_of keyword (read_variable variable) (read_default default) }
     ensures depth { depth.new ≡ max depth.old (maybe_depth (read_default default)) }
 {
     match default {
@@ -135,8 +144,11 @@ fn key_of(
     default: Option<Option<Grown>>,
     depth: &mut usize,
 ) -> Option<Key>
-    ensures key { option_map read_key result ≡ option_map (signatures.key_of keyword (read_variable variable)) (option_map read_default default) }
-    ensures depth { (outer : ℕ) → depth.old ≡ max outer (variable_depth (read_variable variable)) → KeyDepth outer depth.new result }
+    ensures key { option_map read_key result
+        ≡ option_map (signatures.key_of keyword (read_variable variable))
+        (option_map read_default default) }
+    ensures depth { (outer : ℕ) → depth.old ≡ max outer (variable_depth (read_variable variable))
+        → KeyDepth outer depth.new result }
 {
     match default {
         Some(default) => Some(with_default(keyword, variable, default, depth)),
@@ -151,7 +163,9 @@ pub fn key_items(
     fragments: &[Fragment],
     depth: &mut usize,
 ) -> Result<Option<Key>, AllocError>
-    ensures found { IfOk result (λ found. option_map read_key found ≡ option_map capped_key (signatures.key_items (items_of (seen_fragments fragments.now)))) }
+    ensures found { IfOk result
+        (λ found. option_map read_key found
+        ≡ option_map capped_key (signatures.key_items (items_of (seen_fragments fragments.now)))) }
     ensures depth { IfOk result (λ found. KeyDepth depth.old depth.new found) }
 {
     let labelled = label_in(fragments);
@@ -167,8 +181,13 @@ pub fn key_items(
 
 /// The keys with one more.
 fn with_key(keys: Vec<Key>, key: Option<Key>) -> Result<Option<KeysRead>, AllocError>
-    ensures keys { IfOk result (λ found. option_map read_keys found ≡ keys_behind (read_each_key keys.items) (option_map read_key key)) }
-    ensures depth { IfOk result (λ found. (outer old new : ℕ) → KeyDepth old new key → old ≡ max outer (keys_depth (keys_of (read_each_key keys.items))) → KeysDepth outer new found) }
+    ensures keys { IfOk result
+        (λ found. option_map read_keys found
+        ≡ keys_behind (read_each_key keys.items) (option_map read_key key)) }
+    ensures depth { IfOk result
+        (λ found. (outer old new : ℕ) → KeyDepth old new key
+        → old ≡ max outer (keys_depth (keys_of (read_each_key keys.items)))
+        → KeysDepth outer new found) }
 {
     match key {
         Some(key) => {
@@ -192,8 +211,13 @@ fn last_keys(
     fragments: &[Fragment],
     depth: &mut usize,
 ) -> Result<Option<KeysRead>, AllocError>
-    ensures found { IfOk result (λ found. option_map read_keys found ≡ keys_last (read_each_key keys.items) (seen_fragments fragments.now)) }
-    ensures depth { IfOk result (λ found. (outer : ℕ) → depth.old ≡ max outer (keys_depth (keys_of (read_each_key keys.items))) → KeysDepth outer depth.new found) }
+    ensures found { IfOk result
+        (λ found. option_map read_keys found
+        ≡ keys_last (read_each_key keys.items) (seen_fragments fragments.now)) }
+    ensures depth { IfOk result
+        (λ found. (outer : ℕ) → depth.old
+        ≡ max outer (keys_depth (keys_of (read_each_key keys.items)))
+        → KeysDepth outer depth.new found) }
 {
     if is_all_keys(fragments) {
         Ok(Some(KeysRead {
@@ -212,7 +236,10 @@ pub fn several_keys(
     fragments: &[Fragment],
     depth: &mut usize,
 ) -> Result<Option<KeysRead>, AllocError>
-    ensures found { IfOk result (λ found. option_map read_keys found ≡ option_map capped_keys (spec.keys_pieces (cut is_comma_fragment false (items_of (seen_fragments fragments.now))))) }
+    ensures found { IfOk result
+        (λ found. option_map read_keys found
+        ≡ option_map capped_keys (spec.keys_pieces
+        (cut is_comma_fragment false (items_of (seen_fragments fragments.now))))) }
     ensures depth { IfOk result (λ found. KeysDepth depth.old depth.new found) }
 {
     let mut keys = Vec::new(alloc);
@@ -234,7 +261,10 @@ pub fn keys_from(
     fragments: &[Fragment],
     depth: &mut usize,
 ) -> Result<Option<KeysRead>, AllocError>
-    ensures found { IfOk result (λ found. option_map read_keys found ≡ option_map capped_keys (spec.keys_behind_mark (cut is_comma_fragment false (items_of (seen_fragments fragments.now))))) }
+    ensures found { IfOk result
+        (λ found. option_map read_keys found
+        ≡ option_map capped_keys (spec.keys_behind_mark
+        (cut is_comma_fragment false (items_of (seen_fragments fragments.now))))) }
     ensures depth { IfOk result (λ found. KeysDepth depth.old depth.new found) }
 {
     match keys_shape(fragments) {

@@ -22,7 +22,9 @@ use std::alloc::{AllocError, Global};
 #[tactic(auto, using(dy_read_shapes::proofs::ListHeads::all_before))]
 fn without_keys(heads: ListHeads) -> ListedRead
     ensures found { Some (read_listed result) ≡ heads_before heads (Some no_list) }
-    ensures depth { (outer old : ℕ) → old ≡ max outer (required_depth (read_each_required heads.required.items)) → ListedDepth outer old (Some result) }
+    ensures depth { (outer old : ℕ)
+        → old ≡ max outer (required_depth (read_each_required heads.required.items))
+        → ListedDepth outer old (Some result) }
 {
     ListedRead {
         required: heads.required,
@@ -35,8 +37,11 @@ fn without_keys(heads: ListHeads) -> ListedRead
 /// Parameters with what was read behind `#key`.
 #[tactic(auto, using(dy_read_shapes::proofs::ListHeads::all_before, dy_read_shapes::proofs::ListHeads::nothing_before))]
 fn with_keys(heads: ListHeads, keys: Option<KeysRead>) -> Option<ListedRead>
-    ensures found { option_map read_listed result ≡ heads_before heads (option_map listed_keys (option_map read_keys keys)) }
-    ensures depth { (outer old new : ℕ) → old ≡ max outer (required_depth (read_each_required heads.required.items)) → KeysDepth old new keys → ListedDepth outer new result }
+    ensures found { option_map read_listed result
+        ≡ heads_before heads (option_map listed_keys (option_map read_keys keys)) }
+    ensures depth { (outer old new : ℕ)
+        → old ≡ max outer (required_depth (read_each_required heads.required.items))
+        → KeysDepth old new keys → ListedDepth outer new result }
 {
     match keys {
         Some(keys) => Some(ListedRead {
@@ -56,7 +61,10 @@ pub fn listed_items(
     fragments: &[Fragment],
     depth: &mut usize,
 ) -> Result<Option<ListedRead>, AllocError>
-    ensures found { IfOk result (λ found. option_map read_listed found ≡ option_map capped_listed (signatures.listed_items (items_of (seen_fragments fragments.now)))) }
+    ensures found { IfOk result
+        (λ found. option_map read_listed found
+        ≡ option_map capped_listed
+        (signatures.listed_items (items_of (seen_fragments fragments.now)))) }
     ensures depth { IfOk result (λ found. ListedDepth depth.old depth.new found) }
 {
     match list_front(alloc, fragments, depth)? {

@@ -6,10 +6,12 @@ ghost use Rattle.dy_rules.specs.Depth.{parameters_depth};
 ghost use Rattle.dy_rules.specs.Fragments.{items_of};
 ghost use Rattle.dy_rules.specs.Signatures as signatures;
 ghost use Rattle.dy_read_bodies.specs.MethodParts.{with_trees, with_name, name_read, IsNameWithin};
-ghost use Rattle.dy_read_statements.specs.BodyDepths.{BodyDepth};
+ghost use Rattle.dy_read_arms.specs.BodyDepths.{BodyDepth};
 ghost use Rattle.dy_read_parts.specs.Nesting.{nesting};
-ghost use Rattle.dy_read_statements.specs.ReadBodies.{read_parameters, read_items};
-ghost use Rattle.dy_read_statements.specs.ReadMethods.{read_parts, capped_parts, parts_of, read_named, capped_named, named_parts, MethodReadDepth, NamedDepth};
+ghost use Rattle.dy_read_arms.specs.ReadBodies.{read_parameters, read_items};
+ghost use Rattle.dy_read_statements.specs.ReadMethods.{read_parts, capped_parts, parts_of};
+ghost use Rattle.dy_read_statements.specs.ReadMethods.{read_named, capped_named, named_parts};
+ghost use Rattle.dy_read_statements.specs.ReadMethods.{MethodReadDepth, NamedDepth};
 
 use crate::bodies::body;
 use crate::signatures::signature_front;
@@ -28,8 +30,11 @@ struct NameFront<'a> {
 
 /// Parameters with what was read of the body behind them.
 fn method_of(parameters: Parameters, body: Option<Vec<Item>>) -> Option<MethodRead>
-    ensures found { option_map read_parts result ≡ option_map (with_trees (read_parameters parameters)) (option_map read_items body) }
-    ensures depth { (outer old new : ℕ) → old ≡ max outer (parameters_depth (read_parameters parameters)) → BodyDepth old new body → MethodReadDepth outer new result }
+    ensures found { option_map read_parts result
+        ≡ option_map (with_trees (read_parameters parameters)) (option_map read_items body) }
+    ensures depth { (outer old new : ℕ)
+        → old ≡ max outer (parameters_depth (read_parameters parameters)) → BodyDepth old new body
+        → MethodReadDepth outer new result }
 {
     match body {
         Some(body) => Some(MethodRead { parameters, body }),
@@ -44,7 +49,10 @@ pub fn method(
     fragments: &[Fragment],
     depth: &mut usize,
 ) -> Result<Option<MethodRead>, AllocError>
-    ensures found { IfOk result (λ found. option_map read_parts found ≡ option_map capped_parts (option_map parts_of (signatures.method_items (items_of (seen_fragments fragments.now))))) }
+    ensures found { IfOk result
+        (λ found. option_map read_parts found
+        ≡ option_map capped_parts
+        (option_map parts_of (signatures.method_items (items_of (seen_fragments fragments.now))))) }
     ensures depth { IfOk result (λ found. MethodReadDepth depth.old depth.new found) }
 {
     match signature_front(alloc, fragments, depth)? {
@@ -58,7 +66,8 @@ pub fn method(
 
 /// A method with its name.
 fn named_of(name: Token, method: Option<MethodRead>) -> Option<NamedRead>
-    ensures found { option_map read_named result ≡ option_map (with_name name) (option_map read_parts method) }
+    ensures found { option_map read_named result
+        ≡ option_map (with_name name) (option_map read_parts method) }
     ensures depth { (old new : ℕ) → MethodReadDepth old new method → NamedDepth old new result }
 {
     match method {
@@ -70,7 +79,8 @@ fn named_of(name: Token, method: Option<MethodRead>) -> Option<NamedRead>
 /// The name in front, and what stands behind it.
 #[tactic(auto, using(crate::proofs::MethodParts::name_reads))]
 fn name_front(fragments: &[Fragment]) -> Option<NameFront<'_>>
-    ensures name { signatures.named_items (items_of (seen_fragments fragments.now)) ≡ name_read result }
+    ensures name { signatures.named_items (items_of (seen_fragments fragments.now))
+        ≡ name_read result }
     ensures nested { IsNameWithin (nesting (seen_fragments fragments.now)) result }
 {
     match fragments.split_first() {
@@ -89,7 +99,11 @@ pub fn named_method(
     fragments: &[Fragment],
     depth: &mut usize,
 ) -> Result<Option<NamedRead>, AllocError>
-    ensures found { IfOk result (λ found. option_map read_named found ≡ option_map capped_named (option_map named_parts (signatures.named_items (items_of (seen_fragments fragments.now))))) }
+    ensures found { IfOk result
+        (λ found. option_map read_named found
+        ≡ option_map capped_named
+        (option_map named_parts (signatures.named_items
+        (items_of (seen_fragments fragments.now))))) }
     ensures depth { IfOk result (λ found. NamedDepth depth.old depth.new found) }
 {
     match name_front(fragments) {

@@ -6,11 +6,13 @@ ghost use Rattle.dy_rules.specs.Depth.{parameters_depth, results_depth};
 ghost use Rattle.dy_rules.specs.Fragments.{items_of};
 ghost use Rattle.dy_read_bodies.specs.Listed.{read_listed, listed_depth, ListedDepth};
 ghost use Rattle.dy_read_parts.specs.Nesting.{nesting};
-ghost use Rattle.dy_read_statements.specs.ReadBodies.{read_parameters};
+ghost use Rattle.dy_read_arms.specs.ReadBodies.{read_parameters};
 ghost use Rattle.dy_read_types.specs.Results as given;
 ghost use Rattle.dy_read_types.specs.Results.{read_results};
 ghost use Rattle.dy_read_bodies.specs.SignatureFronts as spec;
-ghost use Rattle.dy_read_bodies.specs.SignatureFronts.{seen_signature, capped_signature, signature_items, signature_behind, SignatureDepth, IsRestWithin};
+ghost use Rattle.dy_read_bodies.specs.SignatureFronts.{seen_signature, capped_signature};
+ghost use Rattle.dy_read_bodies.specs.SignatureFronts.{signature_items, signature_behind};
+ghost use Rattle.dy_read_bodies.specs.SignatureFronts.{SignatureDepth, IsRestWithin};
 
 use crate::listed::{listed_items, no_defaults};
 use crate::parameters::parameters_of;
@@ -22,8 +24,11 @@ use dy_tree::{Fragment, Parameters};
 use std::alloc::{AllocError, Global};
 
 fn with_results<'a>(listed: ListedRead, front: ResultsFront<'a>) -> SignatureFront<'a>
-    ensures front { seen_signature result ≡ spec.signature_of (read_listed listed) (given.seen_front front.entry) }
-    ensures depth { parameters_depth (read_parameters result.parameters) ≡ max (listed_depth (read_listed listed)) (results_depth (option_map read_results front.entry.results)) }
+    ensures front { seen_signature result
+        ≡ spec.signature_of (read_listed listed) (given.seen_front front.entry) }
+    ensures depth { parameters_depth (read_parameters result.parameters)
+        ≡ max (listed_depth (read_listed listed))
+        (results_depth (option_map read_results front.entry.results)) }
     ensures rest { result.rest.now ≡ front.entry.rest.now }
 {
     let is_plain = no_defaults(&listed);
@@ -39,8 +44,11 @@ fn signature_of<'a>(
     listed: ListedRead,
     front: Option<ResultsFront<'a>>,
 ) -> Option<SignatureFront<'a>>
-    ensures front { option_map seen_signature result ≡ option_map (spec.signature_of (read_listed listed)) (option_map given.seen_front front.entry) }
-    ensures depth { (outer old new : ℕ) → given.FrontDepth old new front.entry → old ≡ max outer (listed_depth (read_listed listed)) → SignatureDepth outer new result }
+    ensures front { option_map seen_signature result
+        ≡ option_map (spec.signature_of (read_listed listed))
+        (option_map given.seen_front front.entry) }
+    ensures depth { (outer old new : ℕ) → given.FrontDepth old new front.entry
+        → old ≡ max outer (listed_depth (read_listed listed)) → SignatureDepth outer new result }
     ensures nested { (n : ℕ) → given.IsRestWithin n front.entry → IsRestWithin n result }
 {
     match front {
@@ -57,8 +65,13 @@ fn signature_listed<'a>(
     rest: &'a [Fragment],
     depth: &mut usize,
 ) -> Result<Option<SignatureFront<'a>>, AllocError>
-    ensures front { IfOk result (λ found. option_map seen_signature found ≡ option_and_then (signature_behind (items_of (seen_fragments rest.now))) (option_map read_listed listed)) }
-    ensures depth { IfOk result (λ found. (outer : ℕ) → ListedDepth outer depth.old listed → SignatureDepth outer depth.new found) }
+    ensures front { IfOk result
+        (λ found. option_map seen_signature found
+        ≡ option_and_then (signature_behind (items_of (seen_fragments rest.now)))
+        (option_map read_listed listed)) }
+    ensures depth { IfOk result
+        (λ found. (outer : ℕ) → ListedDepth outer depth.old listed
+        → SignatureDepth outer depth.new found) }
     ensures nested { IfOk result (λ found. IsRestWithin (nesting (seen_fragments rest.now)) found) }
 {
     match listed {
@@ -74,9 +87,12 @@ pub fn signature_front<'a>(
     fragments: &'a [Fragment],
     depth: &mut usize,
 ) -> Result<Option<SignatureFront<'a>>, AllocError>
-    ensures front { IfOk result (λ found. option_map seen_signature found ≡ option_map capped_signature (signature_items (items_of (seen_fragments fragments.now)))) }
+    ensures front { IfOk result
+        (λ found. option_map seen_signature found
+        ≡ option_map capped_signature (signature_items (items_of (seen_fragments fragments.now)))) }
     ensures depth { IfOk result (λ found. SignatureDepth depth.old depth.new found) }
-    ensures nested { IfOk result (λ found. IsRestWithin (nesting (seen_fragments fragments.now)) found) }
+    ensures nested { IfOk result
+        (λ found. IsRestWithin (nesting (seen_fragments fragments.now)) found) }
 {
     match headed(fragments) {
         Some(front) => {

@@ -5,7 +5,7 @@ ghost use Rattle.dy_tree.specs.Fragments.{pack, seen_fragments};
 ghost use Rattle.dy_rules.specs.Fragments.{items_of, tree_inside};
 ghost use Rattle.dy_rules.specs.StatementReading.{statement_items};
 ghost use Rattle.dy_rules_depth.specs.Capping.{capped};
-ghost use Rattle.dy_read_operators.specs.Grown.{read_grown};
+ghost use Rattle.dy_read_outers.specs.Grown.{read_grown};
 
 use crate::arms::{case, select};
 use crate::blocks::block;
@@ -13,8 +13,8 @@ use crate::choice::if_statement;
 use crate::expressions::expression;
 use crate::for_loops::for_loop;
 use crate::statements::{begin, guarded, method_statement};
-use dy_read_operators::grown::Grown;
 use dy_read_operators::lists::{list, vector};
+use dy_read_outers::grown::Grown;
 use dy_tree::{Bracket, Fragment, Keyword, Splitting, Token};
 use std::alloc::{AllocError, Global};
 
@@ -26,7 +26,8 @@ pub fn statement(
     word: &Token,
     inner: &[Fragment],
 ) -> Result<Option<Grown>, AllocError>
-    ensures { IfOk result (λ found. option_map read_grown found ≡ option_map capped (statement_items kind word.now (items_of (seen_fragments inner.now)))) }
+    ensures { IfOk result (λ found. option_map read_grown found
+        ≡ option_map capped (statement_items kind word.now (items_of (seen_fragments inner.now)))) }
 {
     match kind {
         Keyword::Begin => begin(alloc, word, inner),
@@ -49,7 +50,9 @@ pub fn inside(
     opener: &Token,
     inner: &[Fragment],
 ) -> Result<Option<Grown>, AllocError>
-    ensures { IfOk result (λ found. option_map read_grown found ≡ option_map capped (tree_inside bracket opener.now (pack (seen_fragments inner.now)) (items_of (seen_fragments inner.now)))) }
+    ensures { IfOk result (λ found. option_map read_grown found
+        ≡ option_map capped (tree_inside bracket opener.now (pack (seen_fragments inner.now))
+        (items_of (seen_fragments inner.now)))) }
 {
     match bracket {
         Bracket::SharpRound => list(alloc, opener, inner),

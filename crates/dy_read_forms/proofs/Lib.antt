@@ -1,7 +1,5 @@
-mod Answers
 mod Deepest
 mod DefinitionParts
 mod Ends
 mod FormParts
 mod SlotParts
-mod Told

@@ -1,4 +1,2 @@
-pub mod Answers
 pub mod ReadDefinitions
 pub mod ReadForms
-pub mod Told

@@ -1,5 +1,6 @@
 -- Definitions and whole forms, in the parts that the reader finds.
-use Rattle.std.specs.Prelude.{if◌then◌else◌, List, [], ◌∷◌, Option, Some, None, option_map, option_and_then}
+use Rattle.std.specs.Prelude.{if◌then◌else◌, List, [], ◌∷◌, Option, Some, None, option_map}
+use Rattle.std.specs.Prelude.{option_and_then}
 use Rattle.dy_tree.specs.declared.token.Token.{Token}
 use Rattle.dy_tree.specs.Fragments.{SeenFragment, one, group, seen_fragments}
 use Rattle.dy_tree.specs.declared.roles.Role.{Role}
@@ -21,7 +22,7 @@ use Rattle.dy_read_forms.specs.declared.form_read.FormRead.{FormRead}
 use Rattle.dy_read_forms.specs.declared.name_front.NameFront.{NameFront}
 use Rattle.dy_read_forms.specs.ReadForms.{read_form}
 use Rattle.dy_read_statements.specs.ReadMethods.{NamedParts}
-use Rattle.dy_read_operators.specs.ReadTrees.{read_tree}
+use Rattle.dy_read_outers.specs.ReadTrees.{read_tree}
 use Rattle.dy_read_bodies.specs.SignatureFronts.{Signature}
 use Rattle.dy_read_types.specs.Targets.{read_target}
 
@@ -82,14 +83,19 @@ bound_form form bound = form bound.target bound.tree
 -- definitions of their parts
 
 abbrev pub method_parts : Token → List Token → Token → NamedParts → FormTree
-method_parts define adjectives word entry = method_form define adjectives word entry.token entry.method.signature (body_of entry.method.trees)
+method_parts define adjectives word entry =
+    method_form define adjectives word entry.token entry.method.signature
+    (body_of entry.method.trees)
 
 abbrev pub function_parts : Token → List Token → NamedParts → FormTree
-function_parts define adjectives entry = function_form define adjectives entry.token entry.method.signature (body_of entry.method.trees)
+function_parts define adjectives entry =
+    function_form define adjectives entry.token entry.method.signature (body_of entry.method.trees)
 
 abbrev pub generic_end : Token → List Token → Token → Signature → List Item → Option FormTree
-generic_end define adjectives token found [] = Some (generic_form define adjectives token found.parts)
+generic_end define adjectives token found [] =
+    Some (generic_form define adjectives token found.parts)
 generic_end define adjectives token found (item ∷ rest) = None
 
 abbrev pub generic_if : Token → List Token → Token → Signature → Option FormTree
-generic_if define adjectives token found = if found.is_plain then generic_end define adjectives token found found.rest else None
+generic_if define adjectives token found =
+    if found.is_plain then generic_end define adjectives token found found.rest else None

@@ -58,7 +58,8 @@ written_slot fragments = slot_pieces (cut is_comma_fragment false (items_of frag
 -- how deep they are with what was read before
 
 abbrev pub slot_depth : written.SlotTree → ℕ
-slot_depth slot = max (variable_depth slot.variable) (max (maybe_depth slot.default) (options_depth slot.options))
+slot_depth slot = max (variable_depth slot.variable)
+    (max (maybe_depth slot.default) (options_depth slot.options))
 
 abbrev pub InitialDepth : ℕ → ℕ → Option (Option Expression) → Type 0
 InitialDepth old new None = ⊤

@@ -7,8 +7,8 @@ ghost use Rattle.dy_rules.specs.FormReading as reading;
 ghost use Rattle.dy_rules.specs.Fragments.{items_of};
 ghost use Rattle.dy_rules.specs.Signatures.{named_items};
 ghost use Rattle.dy_read_parts.specs.Front.{seen_front};
-ghost use Rattle.dy_read_operators.specs.Grown.{read_grown};
-ghost use Rattle.dy_read_statements.specs.ReadBodies.{read_parameters};
+ghost use Rattle.dy_read_outers.specs.Grown.{read_grown};
+ghost use Rattle.dy_read_arms.specs.ReadBodies.{read_parameters};
 ghost use Rattle.dy_read_forms.specs.ReadDefinitions as spec;
 ghost use Rattle.dy_read_forms.specs.ReadDefinitions.{read_found};
 ghost use Rattle.dy_read_forms.specs.ReadForms.{capped_form, slots_in, SlotsDepth};
@@ -23,13 +23,13 @@ use crate::slots::slots_items;
 use dy_read_bodies::expressions::expression;
 use dy_read_bodies::methods::named_method;
 use dy_read_bodies::signatures::signature_front;
-use dy_read_operators::grown::Grown;
+use dy_read_outers::grown::Grown;
+use dy_read_parts::depth::{DEPTH_LIMIT, deepen};
 use dy_read_parts::front::{Front, headed};
 use dy_read_parts::names::names_inside;
 use dy_read_parts::sides::sides_of_equals;
 use dy_read_statements::method_read::NamedRead;
 use dy_read_statements::signature_front::SignatureFront;
-use dy_read_types::depth::{DEPTH_LIMIT, deepen};
 use dy_read_types::targets::target_items;
 use dy_read_types::types::types_items;
 use dy_tree::{Form, Fragment, Slot, Splitting, Target, Token, TypeForm};
@@ -45,7 +45,9 @@ fn class_of(
     depth: usize,
 ) -> Result<Option<FormRead>, AllocError>
     requires { SlotsDepth 0 depth slots }
-    ensures { IfOk result (λ found. option_map read_found found ≡ option_map (reading.class_of define.now adjectives.items name.now superclasses.items) (option_map slots_in slots)) }
+    ensures { IfOk result (λ found. option_map read_found found
+        ≡ option_map (reading.class_of define.now adjectives.items name.now superclasses.items)
+        (option_map slots_in slots)) }
 {
     match slots {
         Some(slots) => Ok(Some(FormRead {
@@ -70,7 +72,9 @@ pub(crate) fn class(
     adjectives: Vec<Token>,
     fragments: &[Fragment],
 ) -> Result<Option<FormRead>, AllocError>
-    ensures { IfOk result (λ found. option_map read_found found ≡ option_map capped_form (reading.class_items define.now adjectives.items (items_of (seen_fragments fragments.now)))) }
+    ensures { IfOk result (λ found. option_map read_found found
+        ≡ option_map capped_form (reading.class_items define.now adjectives.items
+        (items_of (seen_fragments fragments.now)))) }
 {
     match name_front(fragments) {
         Some(NameFront { name, rest }) => match headed(rest) {
@@ -98,7 +102,9 @@ fn method_of(
     depth: usize,
 ) -> Result<Option<FormRead>, AllocError>
     requires { NamedDepth 0 depth named }
-    ensures { IfOk result (λ found. option_map read_found found ≡ option_map (spec.method_parts define.now adjectives.items word.now) (option_map read_named named)) }
+    ensures { IfOk result (λ found. option_map read_found found
+        ≡ option_map (spec.method_parts define.now adjectives.items word.now)
+        (option_map read_named named)) }
 {
     match named {
         Some(named) => Ok(Some(FormRead {
@@ -125,7 +131,10 @@ pub(crate) fn method(
     word: &Token,
     fragments: &[Fragment],
 ) -> Result<Option<FormRead>, AllocError>
-    ensures { IfOk result (λ found. option_map read_found found ≡ option_map capped_form (option_map (reading.method_of_form define.now adjectives.items word.now) (named_items (items_of (seen_fragments fragments.now))))) }
+    ensures { IfOk result (λ found. option_map read_found found
+        ≡ option_map capped_form (option_map
+        (reading.method_of_form define.now adjectives.items word.now)
+        (named_items (items_of (seen_fragments fragments.now))))) }
 {
     let mut depth = 0;
     let named = named_method(alloc, fragments, &mut depth)?;
@@ -141,7 +150,9 @@ fn function_of(
     depth: usize,
 ) -> Result<Option<FormRead>, AllocError>
     requires { NamedDepth 0 depth named }
-    ensures { IfOk result (λ found. option_map read_found found ≡ option_map (spec.function_parts define.now adjectives.items) (option_map read_named named)) }
+    ensures { IfOk result (λ found. option_map read_found found
+        ≡ option_map (spec.function_parts define.now adjectives.items)
+        (option_map read_named named)) }
 {
     match named {
         Some(named) => Ok(Some(FormRead {
@@ -166,7 +177,9 @@ pub(crate) fn function(
     adjectives: Vec<Token>,
     fragments: &[Fragment],
 ) -> Result<Option<FormRead>, AllocError>
-    ensures { IfOk result (λ found. option_map read_found found ≡ option_map capped_form (option_map (reading.function_of_form define.now adjectives.items) (named_items (items_of (seen_fragments fragments.now))))) }
+    ensures { IfOk result (λ found. option_map read_found found
+        ≡ option_map capped_form (option_map (reading.function_of_form define.now adjectives.items)
+        (named_items (items_of (seen_fragments fragments.now))))) }
 {
     let mut depth = 0;
     let named = named_method(alloc, fragments, &mut depth)?;
@@ -176,7 +189,8 @@ pub(crate) fn function(
 /// A target that is so deep, bound to a value.
 fn bound_to(target: Target, value: Option<Grown>, depth: usize) -> Option<Binding>
     requires { depth ≡ measure.target_depth (read_target target) }
-    ensures { option_map spec.read_bound result ≡ option_map (spec.bound_of (read_target target)) (option_map read_grown value) }
+    ensures { option_map spec.read_bound result
+        ≡ option_map (spec.bound_of (read_target target)) (option_map read_grown value) }
 {
     match value {
         Some(grown) => {
@@ -195,7 +209,9 @@ fn bound_to(target: Target, value: Option<Grown>, depth: usize) -> Option<Bindin
 /// A target and what it is bound to.
 #[tactic(auto, using(crate::proofs::DefinitionParts::no_target))]
 fn bound(alloc: Global, fragments: &[Fragment]) -> Result<Option<Binding>, AllocError>
-    ensures { IfOk result (λ found. option_map spec.read_bound found ≡ option_map spec.capped_bound (spec.bound_parts (items_of (seen_fragments fragments.now)))) }
+    ensures { IfOk result (λ found. option_map spec.read_bound found
+        ≡ option_map spec.capped_bound
+        (spec.bound_parts (items_of (seen_fragments fragments.now)))) }
 {
     match sides_of_equals(fragments) {
         Some(sides) => {
@@ -213,7 +229,9 @@ fn bound(alloc: Global, fragments: &[Fragment]) -> Result<Option<Binding>, Alloc
 }
 
 fn constant_of(define: &Token, bound: Option<Binding>) -> Result<Option<FormRead>, AllocError>
-    ensures { IfOk result (λ found. option_map read_found found ≡ option_map (spec.bound_form (reading.constant_of_form define.now)) (option_map spec.read_bound bound)) }
+    ensures { IfOk result (λ found. option_map read_found found
+        ≡ option_map (spec.bound_form (reading.constant_of_form define.now))
+        (option_map spec.read_bound bound)) }
 {
     match bound {
         Some(bound) => Ok(Some(FormRead {
@@ -235,13 +253,17 @@ pub(crate) fn constant(
     define: &Token,
     fragments: &[Fragment],
 ) -> Result<Option<FormRead>, AllocError>
-    ensures { IfOk result (λ found. option_map read_found found ≡ option_map capped_form (reading.bound_items_of (reading.constant_of_form define.now) (items_of (seen_fragments fragments.now)))) }
+    ensures { IfOk result (λ found. option_map read_found found
+        ≡ option_map capped_form (reading.bound_items_of (reading.constant_of_form define.now)
+        (items_of (seen_fragments fragments.now)))) }
 {
     constant_of(define, bound(alloc, fragments)?)
 }
 
 fn variable_of(define: &Token, bound: Option<Binding>) -> Result<Option<FormRead>, AllocError>
-    ensures { IfOk result (λ found. option_map read_found found ≡ option_map (spec.bound_form (reading.variable_of_form define.now)) (option_map spec.read_bound bound)) }
+    ensures { IfOk result (λ found. option_map read_found found
+        ≡ option_map (spec.bound_form (reading.variable_of_form define.now))
+        (option_map spec.read_bound bound)) }
 {
     match bound {
         Some(bound) => Ok(Some(FormRead {
@@ -263,7 +285,9 @@ pub(crate) fn variable(
     define: &Token,
     fragments: &[Fragment],
 ) -> Result<Option<FormRead>, AllocError>
-    ensures { IfOk result (λ found. option_map read_found found ≡ option_map capped_form (reading.bound_items_of (reading.variable_of_form define.now) (items_of (seen_fragments fragments.now)))) }
+    ensures { IfOk result (λ found. option_map read_found found
+        ≡ option_map capped_form (reading.bound_items_of (reading.variable_of_form define.now)
+        (items_of (seen_fragments fragments.now)))) }
 {
     variable_of(define, bound(alloc, fragments)?)
 }
@@ -279,7 +303,9 @@ fn generic_end(
     depth: usize,
 ) -> Result<Option<FormRead>, AllocError>
     requires { depth ≡ measure.parameters_depth (read_parameters signature.parameters) }
-    ensures { IfOk result (λ found. option_map read_found found ≡ spec.generic_end define.now adjectives.items name.now (seen_signature signature.entry) (items_of (seen_fragments signature.entry.rest.now))) }
+    ensures { IfOk result (λ found. option_map read_found found
+        ≡ spec.generic_end define.now adjectives.items name.now (seen_signature signature.entry)
+        (items_of (seen_fragments signature.entry.rest.now))) }
 {
     if signature.rest.is_empty() {
         Ok(Some(FormRead {
@@ -305,7 +331,9 @@ fn generic_of(
     depth: usize,
 ) -> Result<Option<FormRead>, AllocError>
     requires { SignatureDepth 0 depth signature }
-    ensures { IfOk result (λ found. option_map read_found found ≡ option_and_then (spec.generic_if define.now adjectives.items name.now) (option_map seen_signature signature.entry)) }
+    ensures { IfOk result (λ found. option_map read_found found
+        ≡ option_and_then (spec.generic_if define.now adjectives.items name.now)
+        (option_map seen_signature signature.entry)) }
 {
     match signature {
         Some(signature) => {
@@ -327,7 +355,9 @@ pub(crate) fn generic(
     adjectives: Vec<Token>,
     fragments: &[Fragment],
 ) -> Result<Option<FormRead>, AllocError>
-    ensures { IfOk result (λ found. option_map read_found found ≡ option_map capped_form (reading.generic_items define.now adjectives.items (items_of (seen_fragments fragments.now)))) }
+    ensures { IfOk result (λ found. option_map read_found found
+        ≡ option_map capped_form (reading.generic_items define.now adjectives.items
+        (items_of (seen_fragments fragments.now)))) }
 {
     match name_front(fragments) {
         Some(NameFront { name, rest }) => {
@@ -348,7 +378,8 @@ fn domain_of(
     depth: usize,
 ) -> Result<Option<FormRead>, AllocError>
     requires { TypesDepth 0 depth types }
-    ensures { IfOk result (λ found. option_map read_found found ≡ option_map (reading.domain_of define.now name.now) (option_map seen_types types)) }
+    ensures { IfOk result (λ found. option_map read_found found
+        ≡ option_map (reading.domain_of define.now name.now) (option_map seen_types types)) }
 {
     match types {
         Some(types) => Ok(Some(FormRead {
@@ -371,7 +402,9 @@ fn domain_front(
     name: &Token,
     front: &Front<'_>,
 ) -> Result<Option<FormRead>, AllocError>
-    ensures { IfOk result (λ found. option_map read_found found ≡ option_map capped_form (reading.domain_headed define.now name.now (seen_front front.now))) }
+    ensures { IfOk result (λ found. option_map read_found found
+        ≡ option_map capped_form (reading.domain_headed define.now name.now
+        (seen_front front.now))) }
 {
     if front.rest.is_empty() {
         let mut depth = 0;
@@ -389,7 +422,9 @@ pub(crate) fn domain(
     define: &Token,
     fragments: &[Fragment],
 ) -> Result<Option<FormRead>, AllocError>
-    ensures { IfOk result (λ found. option_map read_found found ≡ option_map capped_form (reading.domain_items define.now (items_of (seen_fragments fragments.now)))) }
+    ensures { IfOk result (λ found. option_map read_found found
+        ≡ option_map capped_form (reading.domain_items define.now
+        (items_of (seen_fragments fragments.now)))) }
 {
     match name_front(fragments) {
         Some(NameFront { name, rest }) => match headed(rest) {

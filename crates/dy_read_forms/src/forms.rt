@@ -4,20 +4,18 @@ ghost use Rattle.std.specs.Prelude.{◌≡◌, nat_lt, IfOk, option_map};
 ghost use Rattle.dy_tree.specs.Fragments.{seen_fragments};
 ghost use Rattle.dy_rules.specs.FormReading as reading;
 ghost use Rattle.dy_rules.specs.FormReading.{form_of};
-ghost use Rattle.dy_rules.specs.Parsing.{parsed};
-ghost use Rattle.dy_read_operators.specs.Grown.{read_grown};
+ghost use Rattle.dy_read_outers.specs.Grown.{read_grown};
 ghost use Rattle.dy_read_forms.specs.ReadDefinitions.{read_found};
 ghost use Rattle.dy_read_forms.specs.ReadForms.{capped_form};
-ghost use Rattle.dy_read_forms.specs.Told.{seen_parsed, told_of};
 ghost use Rattle.dy_read_parts.specs.WordsFront.{seen_words};
 
 use crate::definitions::{class, constant, domain, function, generic, method, variable};
 use crate::form_read::FormRead;
 use dy_read_bodies::expressions::expression;
-use dy_read_operators::grown::Grown;
+use dy_read_outers::grown::Grown;
+use dy_read_parts::depth::DEPTH_LIMIT;
 use dy_read_parts::form_front::{FormFront, form_front};
 use dy_read_parts::words::{Wanted, WordsFront, words_front};
-use dy_read_types::depth::DEPTH_LIMIT;
 use dy_read_words::adjective::{
     suit_binding, suit_class, suit_domain, suit_function, suit_generic, suit_method,
 };
@@ -25,20 +23,10 @@ use dy_read_words::define_word::define_word_of;
 use dy_tree::{DefineWord, Form, Fragment, Splitting, Token};
 use std::alloc::{AllocError, Global};
 
-/// What is told of the fragments of a form.
-#[derive(Drop)]
-pub(crate) enum Parsed {
-    /// The form that they stand for.
-    Accepted(Form),
-    /// They stand for a form that is deeper than the limit.
-    TooDeep,
-    /// They stand for no form.
-    NoForm,
-}
-
 /// An expression as a form.
 fn expression_form(found: Option<Grown>) -> Option<FormRead>
-    ensures { option_map read_found result ≡ option_map reading.expression_of_form (option_map read_grown found) }
+    ensures { option_map read_found result
+        ≡ option_map reading.expression_of_form (option_map read_grown found) }
 {
     match found {
         Some(grown) => Some(FormRead {
@@ -51,7 +39,8 @@ fn expression_form(found: Option<Grown>) -> Option<FormRead>
 
 /// A definition with an `end`.
 fn ended(alloc: Global, define: &Token, words: WordsFront) -> Result<Option<FormRead>, AllocError>
-    ensures { IfOk result (λ found. option_map read_found found ≡ option_map capped_form (reading.ended_definition define.now (seen_words words.entry))) }
+    ensures { IfOk result (λ found. option_map read_found found
+        ≡ option_map capped_form (reading.ended_definition define.now (seen_words words.entry))) }
 {
     match define_word_of(words.token) {
         DefineWord::Class => {
@@ -81,7 +70,8 @@ fn ended(alloc: Global, define: &Token, words: WordsFront) -> Result<Option<Form
 
 /// A definition without an `end`.
 fn flat(alloc: Global, define: &Token, words: WordsFront) -> Result<Option<FormRead>, AllocError>
-    ensures { IfOk result (λ found. option_map read_found found ≡ option_map capped_form (reading.flat_definition define.now (seen_words words.entry))) }
+    ensures { IfOk result (λ found. option_map read_found found
+        ≡ option_map capped_form (reading.flat_definition define.now (seen_words words.entry))) }
 {
     match define_word_of(words.token) {
         DefineWord::Constant => {
@@ -116,10 +106,12 @@ fn flat(alloc: Global, define: &Token, words: WordsFront) -> Result<Option<FormR
     }
 }
 
-/// The form that fragments stand for.
+/// The form that fragments stand for, and whether it is deeper than the limit. Where a tree in it is
+/// deeper, a leaf that no text stands for is in its place.
 #[tactic(auto, using(dy_read_parts::proofs::Fronts::items_inside, crate::proofs::FormParts::expression_through))]
-fn form(alloc: Global, fragments: &[Fragment]) -> Result<Option<FormRead>, AllocError>
-    ensures { IfOk result (λ found. option_map read_found found ≡ option_map capped_form (form_of (seen_fragments fragments.now))) }
+pub fn form(alloc: Global, fragments: &[Fragment]) -> Result<Option<FormRead>, AllocError>
+    ensures { IfOk result (λ found. option_map read_found found
+        ≡ option_map capped_form (form_of (seen_fragments fragments.now))) }
 {
     match form_front(fragments) {
         FormFront::Expression => Ok(expression_form(expression(
@@ -138,28 +130,4 @@ fn form(alloc: Global, fragments: &[Fragment]) -> Result<Option<FormRead>, Alloc
             None => Ok(None),
         },
     }
-}
-
-/// The form that was read, where it is within the limit.
-fn told_of(found: Option<FormRead>) -> Parsed
-    ensures { seen_parsed result ≡ told_of found }
-{
-    match found {
-        Some(found) => {
-            if found.is_deep {
-                Parsed::TooDeep
-            } else {
-                Parsed::Accepted(found.form)
-            }
-        }
-        None => Parsed::NoForm,
-    }
-}
-
-/// What is told of the fragments of a form.
-#[tactic(auto, using(crate::proofs::Told::told_same))]
-pub(crate) fn parse_form(alloc: Global, fragments: &[Fragment]) -> Result<Parsed, AllocError>
-    ensures { IfOk result (λ told. seen_parsed told ≡ parsed (seen_fragments fragments.now)) }
-{
-    Ok(told_of(form(alloc, fragments)?))
 }

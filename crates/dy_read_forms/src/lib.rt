@@ -5,7 +5,7 @@ mod definitions;
 mod form_read;
 mod forms;
 mod name_front;
-mod parsing;
 mod slots;
 
-pub use parsing::parse;
+pub use form_read::FormRead;
+pub use forms::form;

@@ -17,7 +17,8 @@ pub(crate) struct NameFront<'a> {
 }
 
 fn name_by<'a>(token: &'a Token, rest: &'a [Fragment]) -> Option<NameFront<'a>>
-    ensures { option_map spec.seen_name result ≡ spec.name_by (rules.role_of token.now) token.now (items_of (seen_fragments rest.now)) }
+    ensures { option_map spec.seen_name result
+        ≡ spec.name_by (rules.role_of token.now) token.now (items_of (seen_fragments rest.now)) }
 {
     match role_of(token) {
         Role::Named => Some(NameFront { name: token, rest }),
@@ -27,7 +28,8 @@ fn name_by<'a>(token: &'a Token, rest: &'a [Fragment]) -> Option<NameFront<'a>>
 
 /// The name in front of fragments.
 pub(crate) fn name_front(fragments: &[Fragment]) -> Option<NameFront<'_>>
-    ensures { option_map spec.seen_name result ≡ spec.name_front (items_of (seen_fragments fragments.now)) }
+    ensures { option_map spec.seen_name result
+        ≡ spec.name_front (items_of (seen_fragments fragments.now)) }
 {
     match fragments.split_first() {
         Some((Fragment::One(token), rest)) => name_by(token, rest),

@@ -7,8 +7,11 @@ ghost use Rattle.dy_rules.specs.Definitions.{suit_slot};
 ghost use Rattle.dy_rules.specs.Fragments.{items_of};
 ghost use Rattle.dy_rules.specs.FormReading as reading;
 ghost use Rattle.dy_read_parts.specs.Cut.{seen_piece};
-ghost use Rattle.dy_read_operators.specs.Grown.{read_grown};
-ghost use Rattle.dy_read_forms.specs.ReadForms.{written_slot, read_initial, read_option, options_in, read_slot, slots_in, capped_option, capped_slot, OptionDepth, OptionsDepth, SlotDepth, SlotsDepth};
+ghost use Rattle.dy_read_outers.specs.Grown.{read_grown};
+ghost use Rattle.dy_read_forms.specs.ReadForms.{written_slot, read_initial, read_option};
+ghost use Rattle.dy_read_forms.specs.ReadForms.{options_in, read_slot, slots_in, capped_option};
+ghost use Rattle.dy_read_forms.specs.ReadForms.{capped_slot, OptionDepth, OptionsDepth, SlotDepth};
+ghost use Rattle.dy_read_forms.specs.ReadForms.{SlotsDepth};
 ghost use Rattle.dy_read_forms.specs.ReadForms.{InitialDepth};
 ghost use Rattle.dy_read_shapes.specs.ReadKeys.{read_default};
 ghost use Rattle.dy_rules_depth.specs.Capping.{capping};
@@ -19,12 +22,12 @@ ghost use Rattle.dy_read_parts.specs.WordsFront.{seen_words};
 
 use dy_read_bodies::expressions::expression;
 use dy_read_bodies::keys::initial_items;
-use dy_read_operators::grown::Grown;
+use dy_read_outers::grown::Grown;
+use dy_read_parts::depth::deepen;
 use dy_read_parts::names::{setter_in, symbol_in};
 use dy_read_parts::pieces::{Piece, cut};
 use dy_read_parts::separator::Separator;
 use dy_read_parts::words::{Wanted, WordsFront, words_front};
-use dy_read_types::depth::deepen;
 use dy_read_types::variables::variable_front;
 use dy_read_words::alone::token_of;
 use dy_read_words::option_word::option_word;
@@ -52,7 +55,8 @@ fn required_init_keyword(found: Option<Token>) -> Option<SlotOption>
 }
 
 fn init_value(found: Option<Grown>, depth: &mut usize) -> Option<SlotOption>
-    ensures found { option_map read_option result ≡ option_map reading.value_of (option_map read_grown found) }
+    ensures found { option_map read_option result
+        ≡ option_map reading.value_of (option_map read_grown found) }
     ensures depth { OptionDepth depth.old depth.new result }
 {
     match found {
@@ -65,7 +69,8 @@ fn init_value(found: Option<Grown>, depth: &mut usize) -> Option<SlotOption>
 }
 
 fn init_function(found: Option<Grown>, depth: &mut usize) -> Option<SlotOption>
-    ensures found { option_map read_option result ≡ option_map reading.function_of (option_map read_grown found) }
+    ensures found { option_map read_option result
+        ≡ option_map reading.function_of (option_map read_grown found) }
     ensures depth { OptionDepth depth.old depth.new result }
 {
     match found {
@@ -85,7 +90,9 @@ fn option_by(
     rest: &[Fragment],
     depth: &mut usize,
 ) -> Result<Option<SlotOption>, AllocError>
-    ensures found { IfOk result (λ found. option_map read_option found ≡ option_map capped_option (reading.option_by word (items_of (seen_fragments rest.now)))) }
+    ensures found { IfOk result
+        (λ found. option_map read_option found
+        ≡ option_map capped_option (reading.option_by word (items_of (seen_fragments rest.now)))) }
     ensures depth { IfOk result (λ found. OptionDepth depth.old depth.new found) }
 {
     match word {
@@ -107,7 +114,10 @@ fn option_items(
     fragments: &[Fragment],
     depth: &mut usize,
 ) -> Result<Option<SlotOption>, AllocError>
-    ensures found { IfOk result (λ found. option_map read_option found ≡ option_map capped_option (reading.option_items (items_of (seen_fragments fragments.now)))) }
+    ensures found { IfOk result
+        (λ found. option_map read_option found
+        ≡ option_map capped_option
+        (reading.option_items (items_of (seen_fragments fragments.now)))) }
     ensures depth { IfOk result (λ found. OptionDepth depth.old depth.new found) }
 {
     match fragments.split_first() {
@@ -122,7 +132,10 @@ fn options_in(
     pieces: &[Piece],
     depth: &mut usize,
 ) -> Result<Option<Vec<SlotOption>>, AllocError>
-    ensures found { IfOk result (λ found. option_map options_in found ≡ option_map (map capped_option) (each_other reading.option_items (map seen_piece pieces.now))) }
+    ensures found { IfOk result
+        (λ found. option_map options_in found
+        ≡ option_map (map capped_option)
+        (each_other reading.option_items (map seen_piece pieces.now))) }
     ensures depth { IfOk result (λ found. OptionsDepth depth.old depth.new found) }
 {
     let mut options = Vec::new(alloc);
@@ -156,7 +169,10 @@ fn initial(
     fragments: &[Fragment],
     depth: &mut usize,
 ) -> Result<Option<Option<Expression>>, AllocError>
-    ensures found { IfOk result (λ found. option_map read_initial found ≡ option_map (changed_maybe capping) (signatures.initial_items (items_of (seen_fragments fragments.now)))) }
+    ensures found { IfOk result
+        (λ found. option_map read_initial found
+        ≡ option_map (changed_maybe capping)
+        (signatures.initial_items (items_of (seen_fragments fragments.now)))) }
     ensures depth { IfOk result (λ found. InitialDepth depth.old depth.new found) }
 {
     let found = initial_items(alloc, fragments)?;
@@ -170,7 +186,9 @@ fn slot_of(
     variable: Variable,
     value: Option<Option<Expression>>,
 ) -> Option<Slot>
-    ensures { option_map read_slot result ≡ option_map (reading.slot_of adjectives.items (options_in options) (read_variable variable)) (option_map read_initial value) }
+    ensures { option_map read_slot result
+        ≡ option_map (reading.slot_of adjectives.items (options_in options)
+        (read_variable variable)) (option_map read_initial value) }
 {
     match value {
         Some(value) => Some(Slot {
@@ -192,7 +210,10 @@ fn slot_front(
     depth: &mut usize,
 ) -> Result<Option<Slot>, AllocError>
     requires { suit_slot words.adjectives.items ≡ true }
-    ensures found { IfOk result (λ found. option_map read_slot found ≡ option_map capped_slot (reading.slot_front (each_other reading.option_items (map seen_piece pieces.now)) (seen_words words.entry))) }
+    ensures found { IfOk result
+        (λ found. option_map read_slot found
+        ≡ option_map capped_slot (reading.slot_front
+        (each_other reading.option_items (map seen_piece pieces.now)) (seen_words words.entry))) }
     ensures depth { IfOk result (λ found. SlotDepth depth.old depth.new found) }
 {
     match options_in(alloc, pieces, depth)? {
@@ -213,7 +234,9 @@ fn slot_pieces(
     fragments: &[Fragment],
     depth: &mut usize,
 ) -> Result<Option<Slot>, AllocError>
-    ensures found { IfOk result (λ found. option_map read_slot found ≡ option_map capped_slot (written_slot (seen_fragments fragments.now))) }
+    ensures found { IfOk result
+        (λ found. option_map read_slot found
+        ≡ option_map capped_slot (written_slot (seen_fragments fragments.now))) }
     ensures depth { IfOk result (λ found. SlotDepth depth.old depth.new found) }
 {
     let pieces = cut(alloc, Separator::Comma, false, fragments)?;
@@ -236,7 +259,9 @@ fn slot_items(
     fragments: &[Fragment],
     depth: &mut usize,
 ) -> Result<Option<Slot>, AllocError>
-    ensures found { IfOk result (λ found. option_map read_slot found ≡ option_map capped_slot (reading.slot_items (items_of (seen_fragments fragments.now)))) }
+    ensures found { IfOk result
+        (λ found. option_map read_slot found
+        ≡ option_map capped_slot (reading.slot_items (items_of (seen_fragments fragments.now)))) }
     ensures depth { IfOk result (λ found. SlotDepth depth.old depth.new found) }
 {
     match slot_pieces(alloc, fragments, depth)? {
@@ -258,7 +283,10 @@ pub(crate) fn slots_items(
     fragments: &[Fragment],
     depth: &mut usize,
 ) -> Result<Option<Vec<Slot>>, AllocError>
-    ensures found { IfOk result (λ found. option_map slots_in found ≡ option_map (map capped_slot) (reading.slots_items (items_of (seen_fragments fragments.now)))) }
+    ensures found { IfOk result
+        (λ found. option_map slots_in found
+        ≡ option_map (map capped_slot)
+        (reading.slots_items (items_of (seen_fragments fragments.now)))) }
     ensures depth { IfOk result (λ found. SlotsDepth depth.old depth.new found) }
 {
     let pieces = cut(alloc, Separator::Semicolon, false, fragments)?;

@@ -10,12 +10,12 @@ use Rattle.dy_rules.specs.Trees.{Tree}
 use Rattle.dy_rules.specs.Depth.{depth_limit}
 use Rattle.dy_rules_depth.specs.Capping.{capped, capped_constant, deep_tree}
 use Rattle.dy_rules_depth.proofs.SameNodes.{same_list, same_vector}
-use Rattle.dy_read_types.specs.declared.list_inside.ListInside.{ListInside}
-use Rattle.dy_read_types.specs.ConstantCaps.{read_constants}
-use Rattle.dy_read_types.specs.ConstantFronts.{read_inside, seen_inside, capped_inside, capped_items, inside_depth, items_depth}
+use Rattle.dy_read_constants.specs.declared.list_inside.ListInside.{ListInside}
+use Rattle.dy_read_constants.specs.ConstantCaps.{read_constants}
+use Rattle.dy_read_constants.specs.ConstantFronts.{read_inside, seen_inside, capped_inside, capped_items, inside_depth, items_depth}
+use Rattle.dy_read_outers.proofs.Fills.{Made, node_made, node_beyond}
 use Rattle.dy_read_operators.specs.ListTrees.{capped_list, capped_vector}
-use Rattle.dy_read_types.proofs.ConstantCaps.{inside_same, constants_same, items_capped, tail_capped}
-use Rattle.dy_read_operators.proofs.Fills.{Made, node_made, node_beyond}
+use Rattle.dy_read_constants.proofs.ConstantCaps.{inside_same, constants_same, items_capped, tail_capped}
 
 pub list_made : (opener : Token) (found : ListInside) (made : Tree) (inside : ℕ) → made ≡ list_tree opener (seen_inside found) → inside ≡ inside_depth (read_inside found) → inside < depth_limit → Made made (list_tree opener (read_inside found)) (inside + 1)
 list_made opener found made inside e is lt =

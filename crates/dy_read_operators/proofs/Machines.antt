@@ -15,10 +15,10 @@ use Rattle.dy_rules.specs.Reading.{Outer, Part, wants, counted, has, dotted, ope
 use Rattle.dy_rules_depth.specs.ReaderChanges.{changed_outer, changed_part, changed_state}
 use Rattle.dy_rules_depth.specs.Capping.{capped, capping, is_absent, is_absent_kind}
 use Rattle.dy_rules_depth.proofs.Twice.{tree_twice, outer_twice}
+use Rattle.dy_read_outers.proofs.Stacks.{grown_kept}
 use Rattle.dy_read_operators.specs.declared.state.State.{State}
 use Rattle.dy_read_operators.specs.declared.state.State.TheVariants as states
 use Rattle.dy_read_operators.specs.Machines.{seen_state, integer_for, need_at_operand, need_behind, need_of, tree_if, passed_if}
-use Rattle.dy_read_operators.proofs.Stacks.{grown_kept}
 
 -- what the machine holds is within the limit
 

@@ -19,11 +19,11 @@ use Rattle.dy_rules.specs.Reading.{Outer, whole, State, wants, counted, has, dot
 use Rattle.dy_rules_depth.specs.Changes.{changed_argument}
 use Rattle.dy_rules_depth.specs.ReaderChanges.{changed_state, changed_passing}
 use Rattle.dy_rules_depth.specs.Capping.{capping, capped, filled, filling}
-use Rattle.dy_read_operators.specs.declared.passed.Passed.{Passed}
-use Rattle.dy_read_operators.specs.Passed.{read_passed}
-use Rattle.dy_read_operators.specs.ReadTrees.{seen_list}
+use Rattle.dy_read_outers.specs.declared.passed.Passed.{Passed}
+use Rattle.dy_read_outers.specs.Passed.{read_passed}
+use Rattle.dy_read_outers.specs.ReadTrees.{seen_list}
+use Rattle.dy_read_outers.proofs.Fills.{filled_kept}
 use Rattle.dy_read_operators.specs.PassingSteps.{ahead, value_group, after_token}
-use Rattle.dy_read_operators.proofs.Fills.{filled_kept}
 
 argument_kept : (argument : Argument) → argument_depth argument ≤ depth_limit → changed_argument capping (changed_argument filling argument) ≡ changed_argument filling argument
 argument_kept (keyword token tree) le = ap (keyword token) (filled_kept tree le)

@@ -9,13 +9,13 @@ use Rattle.dy_rules.specs.Trees.{literal}
 use Rattle.dy_rules.specs.Roles.{positive}
 use Rattle.dy_rules.specs.Reading as reading
 use Rattle.dy_rules.specs.Reading.{Outer, Part}
+use Rattle.dy_read_outers.specs.Grown.{read_grown}
+use Rattle.dy_read_outers.specs.Outers.{seen_outer}
 use Rattle.dy_read_operators.specs.declared.state.State.{State}
 use Rattle.dy_read_operators.specs.declared.state.State.TheVariants as states
 use Rattle.dy_read_operators.specs.declared.state.Machine.{Machine}
 use Rattle.dy_read_operators.specs.declared.state.Need.{Need}
 use Rattle.dy_read_operators.specs.declared.state.Need.TheVariants as needs
-use Rattle.dy_read_operators.specs.Grown.{read_grown}
-use Rattle.dy_read_operators.specs.Outers.{seen_outer}
 
 abbrev pub seen_state : State → Outer → reading.State
 seen_state states.Wants outer = reading.wants outer

@@ -7,15 +7,16 @@ ghost use Rattle.dy_rules.specs.Fragments.{list_tree, vector_tree};
 ghost use Rattle.dy_rules.specs.SeenForms.{seen_tree};
 ghost use Rattle.dy_rules.specs.SeenTypes.{seen_constant};
 ghost use Rattle.dy_rules_depth.specs.Capping.{capped};
-ghost use Rattle.dy_read_types.specs.ConstantFronts.{read_inside, read_vector, seen_inside, inside_depth, items_depth};
-ghost use Rattle.dy_read_operators.specs.Grown.{read_grown};
+ghost use Rattle.dy_read_constants.specs.ConstantFronts.{read_inside, read_vector, seen_inside};
+ghost use Rattle.dy_read_constants.specs.ConstantFronts.{inside_depth, items_depth};
+ghost use Rattle.dy_read_outers.specs.Grown.{read_grown};
 ghost use Rattle.dy_read_operators.specs.ListTrees.{capped_list, capped_vector};
 
-use crate::grown::Grown;
-use crate::nodes::{grown, too_deep};
-use dy_read_types::constants::{list_inside, vector_inside};
-use dy_read_types::depth::DEPTH_LIMIT;
-use dy_read_types::list_inside::ListInside;
+use dy_read_constants::constants::{list_inside, vector_inside};
+use dy_read_constants::list_inside::ListInside;
+use dy_read_outers::grown::Grown;
+use dy_read_outers::nodes::{grown, too_deep};
+use dy_read_parts::depth::DEPTH_LIMIT;
 use dy_tree::{ConstantForm, Expression, Fragment, Token};
 use std::alloc::{AllocError, Global};
 
@@ -32,7 +33,8 @@ fn list_form(opener: &Token, found: ListInside) -> Result<Expression, AllocError
 
 /// A vector, as it lies in memory.
 fn vector_form(opener: &Token, items: Vec<ConstantForm>) -> Result<Expression, AllocError>
-    ensures { IfOk result (λ made. seen_tree made ≡ vector_tree opener.now (map seen_constant items.items)) }
+    ensures { IfOk result (λ made. seen_tree made
+        ≡ vector_tree opener.now (map seen_constant items.items)) }
 {
     Ok(Expression::Vector {
         opener: opener.copy()?,
@@ -66,7 +68,8 @@ fn vector_within(
     inside: usize,
 ) -> Result<Grown, AllocError>
     requires { inside ≡ items_depth (read_vector items) }
-    ensures { IfOk result (λ grown. read_grown grown ≡ capped_vector opener.now (read_vector items)) }
+    ensures { IfOk result (λ grown. read_grown grown
+        ≡ capped_vector opener.now (read_vector items)) }
 {
     if inside < DEPTH_LIMIT {
         let tree = vector_form(opener, items)?;
@@ -82,7 +85,9 @@ pub fn list(
     opener: &Token,
     fragments: &[Fragment],
 ) -> Result<Option<Grown>, AllocError>
-    ensures { IfOk result (λ found. option_map read_grown found ≡ option_map capped (option_map (list_tree opener.now) (list_in (pack (seen_fragments fragments.now))))) }
+    ensures { IfOk result (λ found. option_map read_grown found
+        ≡ option_map capped (option_map (list_tree opener.now)
+        (list_in (pack (seen_fragments fragments.now))))) }
 {
     let mut inside = 0;
     match list_inside(alloc, fragments, &mut inside)? {
@@ -97,7 +102,9 @@ pub fn vector(
     opener: &Token,
     fragments: &[Fragment],
 ) -> Result<Option<Grown>, AllocError>
-    ensures { IfOk result (λ found. option_map read_grown found ≡ option_map capped (option_map (vector_tree opener.now) (vector_in (pack (seen_fragments fragments.now))))) }
+    ensures { IfOk result (λ found. option_map read_grown found
+        ≡ option_map capped (option_map (vector_tree opener.now)
+        (vector_in (pack (seen_fragments fragments.now))))) }
 {
     let mut inside = 0;
     match vector_inside(alloc, fragments, &mut inside)? {

@@ -9,19 +9,19 @@ ghost use Rattle.dy_rules.specs.Reading as reading;
 ghost use Rattle.dy_rules_depth.specs.Changes.{changed_argument};
 ghost use Rattle.dy_rules_depth.specs.ReaderChanges.{changed_passing};
 ghost use Rattle.dy_rules_depth.specs.Capping.{capping};
-ghost use Rattle.dy_read_operators.specs.Grown.{read_grown};
+ghost use Rattle.dy_read_outers.specs.Grown.{read_grown};
+ghost use Rattle.dy_read_outers.specs.Passed.{read_passed};
 ghost use Rattle.dy_read_operators.specs.Machines.{seen_machine};
-ghost use Rattle.dy_read_operators.specs.Passed.{read_passed};
 ghost use Rattle.dy_read_operators.specs.PassingSteps as steps;
 ghost use Rattle.dy_read_operators.specs.Passings as spec;
 
-use crate::grown::Grown;
-use crate::nodes::literal;
-use crate::outer::Outer;
-use crate::passed::Passed;
 use crate::state::{Machine, Need, State, need_at_operand, need_behind};
+use dy_read_outers::grown::Grown;
+use dy_read_outers::nodes::literal;
+use dy_read_outers::outer::Outer;
+use dy_read_outers::passed::Passed;
+use dy_read_parts::depth::deepest;
 use dy_read_parts::value::role_begins_value;
-use dy_read_types::depth::deepest;
 use dy_read_words::role::role_of;
 use dy_tree::{Argument, Bracket, Expression, LiteralForm, Role, Splitting, Token};
 use std::alloc::{AllocError, Global};
@@ -68,7 +68,8 @@ fn argument_of(keyword: Option<Token>, value: Expression) -> Argument
 
 /// One argument more.
 fn with_last(passed: Passed, keyword: Option<Token>, tree: Grown) -> Result<Passed, AllocError>
-    ensures { IfOk result (λ more. read_passed more ≡ reading.with_last (read_passed passed) keyword (read_grown tree)) }
+    ensures { IfOk result (λ more. read_passed more
+        ≡ reading.with_last (read_passed passed) keyword (read_grown tree)) }
 {
     let depth = deepest(passed.depth, tree.depth);
     let argument = argument_of(keyword, Box::into_inner(tree.tree));
@@ -83,7 +84,9 @@ fn with_tree(
     keyword: Option<Token>,
     tree: Option<Grown>,
 ) -> Result<Option<Passed>, AllocError>
-    ensures { IfOk result (λ found. option_map read_passed found ≡ option_map (reading.with_last (read_passed passed) keyword) (option_map read_grown tree)) }
+    ensures { IfOk result (λ found. option_map read_passed found
+        ≡ option_map (reading.with_last (read_passed passed) keyword)
+        (option_map read_grown tree)) }
 {
     match tree {
         Some(tree) => Ok(Some(with_last(passed, keyword, tree)?)),
@@ -93,7 +96,9 @@ fn with_tree(
 
 /// The same arguments, with what was read of the next one.
 fn with_machine(passed: Passed, keyword: Option<Token>, machine: Option<Machine>) -> Option<Passing>
-    ensures { option_map spec.seen_passing result ≡ option_map (reading.passing (read_passed passed) keyword) (option_map seen_machine machine) }
+    ensures { option_map spec.seen_passing result
+        ≡ option_map (reading.passing (read_passed passed) keyword)
+        (option_map seen_machine machine) }
 {
     match machine {
         Some(machine) => Some(Passing::Within(Value {
@@ -107,7 +112,8 @@ fn with_machine(passed: Passed, keyword: Option<Token>, machine: Option<Machine>
 
 /// A comma behind arguments.
 fn behind_comma(passed: Option<Passed>) -> Option<Passing>
-    ensures { option_map spec.seen_passing result ≡ option_map reading.passes_next (option_map read_passed passed) }
+    ensures { option_map spec.seen_passing result
+        ≡ option_map reading.passes_next (option_map read_passed passed) }
 {
     match passed {
         Some(passed) => Some(Passing::Next(passed)),
@@ -118,7 +124,9 @@ fn behind_comma(passed: Option<Passed>) -> Option<Passing>
 impl Value {
     /// Reads a token.
     fn token(self, alloc: Global, token: &Token) -> Result<Option<Passing>, AllocError>
-        ensures { IfOk result (λ next. option_map spec.seen_passing next ≡ option_map (changed_passing capping) (steps.value_token (spec.seen_value self) token.now)) }
+        ensures { IfOk result (λ next. option_map spec.seen_passing next
+            ≡ option_map (changed_passing capping)
+            (steps.value_token (spec.seen_value self) token.now)) }
     {
         let Value {
             passed,
@@ -138,7 +146,10 @@ impl Value {
         tree: Option<Grown>,
         arguments: Option<Passed>,
     ) -> Result<Option<Passing>, AllocError>
-        ensures { IfOk result (λ next. option_map spec.seen_passing next ≡ option_map (changed_passing capping) (steps.value_group (spec.seen_value self) opener.now bracket (option_map read_grown tree) (option_map read_passed arguments))) }
+        ensures { IfOk result (λ next. option_map spec.seen_passing next
+            ≡ option_map (changed_passing capping)
+            (steps.value_group (spec.seen_value self) opener.now bracket
+            (option_map read_grown tree) (option_map read_passed arguments))) }
     {
         let Value {
             passed,
@@ -151,7 +162,9 @@ impl Value {
 
     /// The arguments with this one, where it ends.
     fn finish(self, alloc: Global) -> Result<Option<Passed>, AllocError>
-        ensures { IfOk result (λ found. option_map read_passed found ≡ option_map (map (changed_argument capping)) (reading.arguments_in (spec.seen_value self))) }
+        ensures { IfOk result (λ found. option_map read_passed found
+            ≡ option_map (map (changed_argument capping))
+            (reading.arguments_in (spec.seen_value self))) }
     {
         let Value {
             passed,
@@ -165,7 +178,8 @@ impl Value {
 
 /// A machine that read a symbol.
 fn symbol_machine(alloc: Global, symbol: Token) -> Result<Machine, AllocError>
-    ensures { IfOk result (λ machine. seen_machine machine ≡ reading.has (trees.literal (literals.Symbol symbol)) reading.whole) }
+    ensures { IfOk result (λ machine. seen_machine machine
+        ≡ reading.has (trees.literal (literals.Symbol symbol)) reading.whole) }
 {
     let tree = literal(alloc, LiteralForm::Symbol(symbol))?;
     Ok(Machine {
@@ -181,7 +195,8 @@ fn symbol_ahead(
     symbol: Token,
     begins: bool,
 ) -> Result<Value, AllocError>
-    ensures { IfOk result (λ value. spec.seen_value value ≡ steps.ahead begins (reading.symbol_first (read_passed passed) symbol)) }
+    ensures { IfOk result (λ value. spec.seen_value value
+        ≡ steps.ahead begins (reading.symbol_first (read_passed passed) symbol)) }
 {
     if begins {
         Ok(Value {
@@ -202,7 +217,8 @@ fn symbol_ahead(
 /// A symbol at the front of an argument.
 #[tactic(auto, using(crate::proofs::PassingSteps::passed_kept))]
 fn symbol_first(passed: Passed, token: &Token) -> Result<Option<Passing>, AllocError>
-    ensures { IfOk result (λ next. option_map spec.seen_passing next ≡ Some (changed_passing capping (reading.symbol_first (read_passed passed) token.now))) }
+    ensures { IfOk result (λ next. option_map spec.seen_passing next
+        ≡ Some (changed_passing capping (reading.symbol_first (read_passed passed) token.now))) }
 {
     let symbol = token.copy()?;
     Ok(Some(Passing::SymbolFirst(passed, symbol)))
@@ -216,9 +232,11 @@ impl Passing {
         Passing::Nothing
     }
 
-    /// What reads the next fragment as a part of an argument, where a value begins with it or does not.
+    /// What reads the next fragment as a part of an argument, where a value begins with it or does
+    /// not.
     fn ahead(self, alloc: Global, begins: bool) -> Result<Value, AllocError>
-        ensures { IfOk result (λ value. spec.seen_value value ≡ steps.ahead begins (spec.seen_passing self)) }
+        ensures { IfOk result (λ value. spec.seen_value value
+            ≡ steps.ahead begins (spec.seen_passing self)) }
     {
         match self {
             Passing::Nothing => Ok(Value {
@@ -264,7 +282,10 @@ impl Passing {
         tree: Option<Grown>,
         arguments: Option<Passed>,
     ) -> Result<Option<Passing>, AllocError>
-        ensures { IfOk result (λ next. option_map spec.seen_passing next ≡ option_map (changed_passing capping) (steps.value_group (steps.ahead begins (spec.seen_passing self)) opener.now bracket (option_map read_grown tree) (option_map read_passed arguments))) }
+        ensures { IfOk result (λ next. option_map spec.seen_passing next
+            ≡ option_map (changed_passing capping)
+            (steps.value_group (steps.ahead begins (spec.seen_passing self)) opener.now bracket
+            (option_map read_grown tree) (option_map read_passed arguments))) }
     {
         let value = self.ahead(alloc, begins)?;
         value.group(alloc, bracket, opener, tree, arguments)
@@ -272,7 +293,9 @@ impl Passing {
 
     /// Reads a token.
     pub fn token(self, alloc: Global, token: &Token) -> Result<Option<Passing>, AllocError>
-        ensures { IfOk result (λ next. option_map spec.seen_passing next ≡ option_map (changed_passing capping) (steps.after_token (rules.role_of token.now) (spec.seen_passing self) token.now)) }
+        ensures { IfOk result (λ next. option_map spec.seen_passing next
+            ≡ option_map (changed_passing capping)
+            (steps.after_token (rules.role_of token.now) (spec.seen_passing self) token.now)) }
     {
         self.by_role(alloc, token, role_of(token))
     }
@@ -284,7 +307,9 @@ impl Passing {
         token: &Token,
         role: Role,
     ) -> Result<Option<Passing>, AllocError>
-        ensures { IfOk result (λ next. option_map spec.seen_passing next ≡ option_map (changed_passing capping) (steps.after_token role (spec.seen_passing self) token.now)) }
+        ensures { IfOk result (λ next. option_map spec.seen_passing next
+            ≡ option_map (changed_passing capping)
+            (steps.after_token role (spec.seen_passing self) token.now)) }
     {
         match role {
             Role::Comma => self.comma(alloc),
@@ -298,7 +323,9 @@ impl Passing {
 
     /// Reads a comma.
     fn comma(self, alloc: Global) -> Result<Option<Passing>, AllocError>
-        ensures { IfOk result (λ next. option_map spec.seen_passing next ≡ option_map (changed_passing capping) (option_map reading.passes_next (reading.arguments_in (spec.seen_passing self)))) }
+        ensures { IfOk result (λ next. option_map spec.seen_passing next
+            ≡ option_map (changed_passing capping)
+            (option_map reading.passes_next (reading.arguments_in (spec.seen_passing self)))) }
     {
         let passed = self.arguments(alloc)?;
         Ok(behind_comma(passed))
@@ -306,7 +333,9 @@ impl Passing {
 
     /// Reads a symbol.
     fn symbol(self, alloc: Global, token: &Token) -> Result<Option<Passing>, AllocError>
-        ensures { IfOk result (λ next. option_map spec.seen_passing next ≡ option_map (changed_passing capping) (steps.after_symbol (spec.seen_passing self) token.now)) }
+        ensures { IfOk result (λ next. option_map spec.seen_passing next
+            ≡ option_map (changed_passing capping)
+            (steps.after_symbol (spec.seen_passing self) token.now)) }
     {
         match self {
             Passing::Nothing => symbol_first(none_passed(alloc), token),
@@ -321,7 +350,9 @@ impl Passing {
 
     /// The arguments, where an argument ends.
     fn arguments(self, alloc: Global) -> Result<Option<Passed>, AllocError>
-        ensures { IfOk result (λ found. option_map read_passed found ≡ option_map (map (changed_argument capping)) (reading.arguments_in (spec.seen_passing self))) }
+        ensures { IfOk result (λ found. option_map read_passed found
+            ≡ option_map (map (changed_argument capping))
+            (reading.arguments_in (spec.seen_passing self))) }
     {
         match self {
             Passing::Nothing => Ok(None),
@@ -336,7 +367,9 @@ impl Passing {
 
     /// The arguments, where the fragments end.
     pub fn finish(self, alloc: Global) -> Result<Option<Passed>, AllocError>
-        ensures { IfOk result (λ found. option_map read_passed found ≡ option_map (map (changed_argument capping)) (reading.arguments_at_end (spec.seen_passing self))) }
+        ensures { IfOk result (λ found. option_map read_passed found
+            ≡ option_map (map (changed_argument capping))
+            (reading.arguments_at_end (spec.seen_passing self))) }
     {
         match self {
             Passing::Nothing => Ok(Some(none_passed(alloc))),

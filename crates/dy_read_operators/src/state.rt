@@ -1,4 +1,5 @@
-//! The reader of one expression, fragment by fragment. What stands inside of a group is read by others.
+//! The reader of one expression, fragment by fragment. What stands inside of a group is read by
+//! others.
 
 ghost use Rattle.std.specs.Prelude.{◌≡◌, suc, IfOk, Some, option_map};
 ghost use Rattle.dy_tree.specs.declared.roles.Role.TheVariants as roles;
@@ -8,16 +9,16 @@ ghost use Rattle.dy_rules.specs.Trees as trees;
 ghost use Rattle.dy_rules.specs.Reading as reading;
 ghost use Rattle.dy_rules_depth.specs.Capping.{capped, capping};
 ghost use Rattle.dy_rules_depth.specs.ReaderChanges.{changed_state};
-ghost use Rattle.dy_read_operators.specs.Grown.{read_grown};
+ghost use Rattle.dy_read_outers.specs.Grown.{read_grown};
+ghost use Rattle.dy_read_outers.specs.Outers.{seen_outer};
+ghost use Rattle.dy_read_outers.specs.Passed.{read_passed};
 ghost use Rattle.dy_read_operators.specs.Machines as spec;
-ghost use Rattle.dy_read_operators.specs.Outers.{seen_outer};
-ghost use Rattle.dy_read_operators.specs.Passed.{read_passed};
 
-use crate::grown::Grown;
-use crate::nodes::{call, element, literal, member, name};
-use crate::outer::{Entry, Outer, below, finish, integer_part, reduce};
-use crate::passed::Passed;
-use dy_read_types::literal::positive;
+use dy_read_outers::grown::Grown;
+use dy_read_outers::nodes::{call, element, literal, member, name};
+use dy_read_outers::outer::{Entry, Outer, below, finish, integer_part, reduce};
+use dy_read_outers::passed::Passed;
+use dy_read_parts::literal::positive;
 use dy_read_words::role::role_of;
 use dy_read_words::splitter::splits;
 use dy_tree::{Bracket, LiteralForm, Precedence, Role, Splitting, Token};
@@ -51,9 +52,10 @@ pub enum Need {
     Nothing,
 }
 
-#[tactic(auto, using(crate::proofs::Machines::state_kept, crate::proofs::Stacks::outer_kept))]
+#[tactic(auto, using(crate::proofs::Machines::state_kept, dy_read_outers::proofs::Stacks::outer_kept))]
 fn make_machine(state: State, outer: Outer) -> Machine
-    ensures { spec.seen_machine result ≡ changed_state capping (spec.seen_state state (seen_outer outer)) }
+    ensures { spec.seen_machine result
+        ≡ changed_state capping (spec.seen_state state (seen_outer outer)) }
 {
     Machine { state, outer }
 }
@@ -64,7 +66,8 @@ fn literal_operand(
     outer: Outer,
     form: LiteralForm,
 ) -> Result<Option<Machine>, AllocError>
-    ensures { IfOk result (λ next. option_map spec.seen_machine next ≡ Some (changed_state capping (reading.has (trees.literal form) (seen_outer outer)))) }
+    ensures { IfOk result (λ next. option_map spec.seen_machine next
+        ≡ Some (changed_state capping (reading.has (trees.literal form) (seen_outer outer)))) }
 {
     let tree = literal(alloc, form)?;
     Ok(Some(make_machine(State::Has(tree), outer)))
@@ -79,7 +82,9 @@ fn named_operand(
     token: &Token,
 ) -> Result<Option<Machine>, AllocError>
     requires { rules.role_of token.now ≡ roles.Named }
-    ensures { IfOk result (λ next. option_map spec.seen_machine next ≡ option_map (changed_state capping) (reading.name_if (rules.splits words token.now) token.now (seen_outer outer))) }
+    ensures { IfOk result (λ next. option_map spec.seen_machine next
+        ≡ option_map (changed_state capping)
+        (reading.name_if (rules.splits words token.now) token.now (seen_outer outer))) }
 {
     if splits(words, token) {
         Ok(None)
@@ -91,7 +96,9 @@ fn named_operand(
 
 /// A sign in front of its operand.
 fn under(outer: Outer, sign: &Token) -> Result<Option<Machine>, AllocError>
-    ensures { IfOk result (λ next. option_map spec.seen_machine next ≡ Some (changed_state capping (reading.wants (reading.under sign.now (seen_outer outer))))) }
+    ensures { IfOk result (λ next. option_map spec.seen_machine next
+        ≡ Some (changed_state capping
+        (reading.wants (reading.under sign.now (seen_outer outer))))) }
 {
     let mut outer = outer;
     let sign = sign.copy()?;
@@ -108,7 +115,9 @@ fn at_operand(
     role: Role,
 ) -> Result<Option<Machine>, AllocError>
     requires { role ≡ rules.role_of token.now }
-    ensures { IfOk result (λ next. option_map spec.seen_machine next ≡ option_map (changed_state capping) (reading.at_operand words (seen_outer outer) token.now role)) }
+    ensures { IfOk result (λ next. option_map spec.seen_machine next
+        ≡ option_map (changed_state capping)
+        (reading.at_operand words (seen_outer outer) token.now role)) }
 {
     match role {
         Role::Integer => Ok(Some(make_machine(State::Counted(token.copy()?), outer))),
@@ -132,7 +141,11 @@ fn operates(
     tree: Grown,
     outer: Outer,
 ) -> Result<Option<Machine>, AllocError>
-    ensures { IfOk result (λ next. option_map spec.seen_machine next ≡ Some (changed_state capping (reading.operates precedence sign.now (reading.reduced (suc (operators.below precedence)) (read_grown tree) (seen_outer outer))))) }
+    ensures { IfOk result (λ next. option_map spec.seen_machine next
+        ≡ Some (changed_state capping
+        (reading.operates precedence sign.now
+        (reading.reduced (suc (operators.below precedence)) (read_grown tree)
+        (seen_outer outer))))) }
 {
     let mut outer = outer;
     let left = reduce(alloc, below(precedence) + 1, tree, &mut outer)?;
@@ -153,7 +166,9 @@ fn assigns_to(
     tree: Grown,
     outer: Outer,
 ) -> Result<Option<Machine>, AllocError>
-    ensures { IfOk result (λ next. option_map spec.seen_machine next ≡ Some (changed_state capping (reading.assigns_to (reading.reduced 5 (read_grown tree) (seen_outer outer))))) }
+    ensures { IfOk result (λ next. option_map spec.seen_machine next
+        ≡ Some (changed_state capping
+        (reading.assigns_to (reading.reduced 5 (read_grown tree) (seen_outer outer))))) }
 {
     let mut outer = outer;
     let place = reduce(alloc, 5, tree, &mut outer)?;
@@ -170,7 +185,10 @@ fn behind(
     token: &Token,
     role: Role,
 ) -> Result<Option<Machine>, AllocError>
-    ensures { IfOk result (λ next. option_map spec.seen_machine next ≡ option_map (changed_state capping) (reading.behind (read_grown tree, seen_outer outer) (read_grown tree, seen_outer outer) token.now role)) }
+    ensures { IfOk result (λ next. option_map spec.seen_machine next
+        ≡ option_map (changed_state capping)
+        (reading.behind (read_grown tree, seen_outer outer)
+        (read_grown tree, seen_outer outer) token.now role)) }
 {
     match role {
         Role::Operator(precedence) => operates(alloc, precedence, token, tree, outer),
@@ -188,7 +206,8 @@ fn integer_for(
     digits: &Token,
     outer: &mut Outer,
 ) -> Result<Grown, AllocError>
-    ensures { IfOk result (λ grown. (read_grown grown, seen_outer outer.new) ≡ spec.integer_for role digits.now (seen_outer outer.old)) }
+    ensures { IfOk result (λ grown. (read_grown grown, seen_outer outer.new)
+        ≡ spec.integer_for role digits.now (seen_outer outer.old)) }
 {
     match role {
         Role::Dot => literal(alloc, positive(digits)?),
@@ -205,7 +224,10 @@ fn behind_integer(
     token: &Token,
     role: Role,
 ) -> Result<Option<Machine>, AllocError>
-    ensures { IfOk result (λ next. option_map spec.seen_machine next ≡ option_map (changed_state capping) (reading.behind (trees.literal (rules.positive digits), seen_outer outer) (reading.integer_part digits (seen_outer outer)) token.now role)) }
+    ensures { IfOk result (λ next. option_map spec.seen_machine next
+        ≡ option_map (changed_state capping)
+        (reading.behind (trees.literal (rules.positive digits), seen_outer outer)
+        (reading.integer_part digits (seen_outer outer)) token.now role)) }
 {
     let mut outer = outer;
     let tree = integer_for(alloc, role, &digits, &mut outer)?;
@@ -221,7 +243,9 @@ fn behind_dot(
     token: &Token,
     role: Role,
 ) -> Result<Option<Machine>, AllocError>
-    ensures { IfOk result (λ next. option_map spec.seen_machine next ≡ option_map (changed_state capping) (reading.behind_dot words (read_grown tree) (seen_outer outer) token.now role)) }
+    ensures { IfOk result (λ next. option_map spec.seen_machine next
+        ≡ option_map (changed_state capping)
+        (reading.behind_dot words (read_grown tree) (seen_outer outer) token.now role)) }
 {
     match role {
         Role::Named => member_operand(alloc, words, tree, outer, token),
@@ -238,7 +262,10 @@ fn member_operand(
     outer: Outer,
     token: &Token,
 ) -> Result<Option<Machine>, AllocError>
-    ensures { IfOk result (λ next. option_map spec.seen_machine next ≡ option_map (changed_state capping) (reading.member_if (rules.splits words token.now) (read_grown tree) (seen_outer outer) token.now)) }
+    ensures { IfOk result (λ next. option_map spec.seen_machine next
+        ≡ option_map (changed_state capping)
+        (reading.member_if (rules.splits words token.now) (read_grown tree)
+        (seen_outer outer) token.now)) }
 {
     if splits(words, token) {
         Ok(None)
@@ -250,7 +277,9 @@ fn member_operand(
 
 /// An operand in brackets.
 fn in_brackets(outer: Outer, tree: Option<Grown>) -> Option<Machine>
-    ensures { option_map spec.seen_machine result ≡ option_map (changed_state capping) (option_map (reading.in_brackets (seen_outer outer)) (option_map read_grown tree)) }
+    ensures { option_map spec.seen_machine result
+        ≡ option_map (changed_state capping)
+        (option_map (reading.in_brackets (seen_outer outer)) (option_map read_grown tree)) }
 {
     match tree {
         Some(tree) => Some(make_machine(State::Has(tree), outer)),
@@ -260,7 +289,9 @@ fn in_brackets(outer: Outer, tree: Option<Grown>) -> Option<Machine>
 
 /// A group where an operand comes.
 fn group_at_operand(outer: Outer, bracket: Bracket, tree: Option<Grown>) -> Option<Machine>
-    ensures { option_map spec.seen_machine result ≡ option_map (changed_state capping) (reading.group_at_operand (seen_outer outer) bracket (option_map read_grown tree)) }
+    ensures { option_map spec.seen_machine result
+        ≡ option_map (changed_state capping)
+        (reading.group_at_operand (seen_outer outer) bracket (option_map read_grown tree)) }
 {
     match bracket {
         Bracket::Round => in_brackets(outer, tree),
@@ -282,7 +313,10 @@ fn called(
     opener: &Token,
     passed: Option<Passed>,
 ) -> Result<Option<Machine>, AllocError>
-    ensures { IfOk result (λ next. option_map spec.seen_machine next ≡ option_map (changed_state capping) (option_map (reading.called (read_grown function, seen_outer outer)) (option_map read_passed passed))) }
+    ensures { IfOk result (λ next. option_map spec.seen_machine next
+        ≡ option_map (changed_state capping)
+        (option_map (reading.called (read_grown function, seen_outer outer))
+        (option_map read_passed passed))) }
 {
     match passed {
         Some(passed) => {
@@ -302,7 +336,10 @@ fn indexed(
     opener: &Token,
     index: Option<Grown>,
 ) -> Result<Option<Machine>, AllocError>
-    ensures { IfOk result (λ next. option_map spec.seen_machine next ≡ option_map (changed_state capping) (option_map (reading.indexed (read_grown object, seen_outer outer) opener.now) (option_map read_grown index))) }
+    ensures { IfOk result (λ next. option_map spec.seen_machine next
+        ≡ option_map (changed_state capping)
+        (option_map (reading.indexed (read_grown object, seen_outer outer) opener.now)
+        (option_map read_grown index))) }
 {
     match index {
         Some(index) => {
@@ -323,7 +360,10 @@ fn group_behind(
     tree: Option<Grown>,
     passed: Option<Passed>,
 ) -> Result<Option<Machine>, AllocError>
-    ensures { IfOk result (λ next. option_map spec.seen_machine next ≡ option_map (changed_state capping) (reading.group_behind (read_grown object, seen_outer outer) opener.now bracket (option_map read_grown tree) (option_map read_passed passed))) }
+    ensures { IfOk result (λ next. option_map spec.seen_machine next
+        ≡ option_map (changed_state capping)
+        (reading.group_behind (read_grown object, seen_outer outer) opener.now bracket
+        (option_map read_grown tree) (option_map read_passed passed))) }
 {
     match bracket {
         Bracket::Round => called(alloc, object, outer, opener, passed),
@@ -384,7 +424,9 @@ impl Machine {
         words: Splitting,
         token: &Token,
     ) -> Result<Option<Machine>, AllocError>
-        ensures { IfOk result (λ next. option_map spec.seen_machine next ≡ option_map (changed_state capping) (reading.at_token words (spec.seen_machine self) token.now)) }
+        ensures { IfOk result (λ next. option_map spec.seen_machine next
+            ≡ option_map (changed_state capping)
+            (reading.at_token words (spec.seen_machine self) token.now)) }
     {
         let role = role_of(token);
         let Machine { state, outer } = self;
@@ -405,7 +447,10 @@ impl Machine {
         tree: Option<Grown>,
         passed: Option<Passed>,
     ) -> Result<Option<Machine>, AllocError>
-        ensures { IfOk result (λ next. option_map spec.seen_machine next ≡ option_map (changed_state capping) (reading.at_group (spec.seen_machine self) opener.now bracket (option_map read_grown tree) (option_map read_passed passed))) }
+        ensures { IfOk result (λ next. option_map spec.seen_machine next
+            ≡ option_map (changed_state capping)
+            (reading.at_group (spec.seen_machine self) opener.now bracket
+            (option_map read_grown tree) (option_map read_passed passed))) }
     {
         let Machine { state, outer } = self;
         match state {
@@ -423,7 +468,8 @@ impl Machine {
 
     /// The expression, where the fragments end.
     pub fn tree(self, alloc: Global) -> Result<Option<Grown>, AllocError>
-        ensures { IfOk result (λ found. option_map read_grown found ≡ option_map capped (reading.tree_of (spec.seen_machine self))) }
+        ensures { IfOk result (λ found. option_map read_grown found
+            ≡ option_map capped (reading.tree_of (spec.seen_machine self))) }
     {
         let Machine { state, outer } = self;
         match state {

@@ -18,9 +18,11 @@ part_of (group opener inner closer) = group_part (bracket_of opener closer) open
 
 abbrev pub seen_part : Part → SeenPart
 seen_part (parts.One token) = token_part token.now
-seen_part (parts.Group bracket opener inner) = group_part bracket opener.now (seen_fragments inner.now)
+seen_part (parts.Group bracket opener inner) =
+    group_part bracket opener.now (seen_fragments inner.now)
 
 -- what stands inside is nested less deep
 abbrev pub IsShallower : Part → SeenFragment → Type 0
 IsShallower (parts.One token) fragment = ⊤
-IsShallower (parts.Group bracket opener inner) fragment = nesting (seen_fragments inner.now) < group_nesting fragment
+IsShallower (parts.Group bracket opener inner) fragment =
+    nesting (seen_fragments inner.now) < group_nesting fragment

@@ -8,6 +8,9 @@ abbrev pub seen_front : Found → Front
 seen_front front =
     let inner = seen_fragments front.inner.now in
     record {
-      first = record { fragment = group front.opener.now (pack inner) front.closer.now; found = found_of front.opener.now (pack inner) front.closer.now (items_of inner) };
+      first = record {
+        fragment = group front.opener.now (pack inner) front.closer.now;
+        found = found_of front.opener.now (pack inner) front.closer.now (items_of inner);
+      };
       rest = items_of (seen_fragments front.rest.now);
     }

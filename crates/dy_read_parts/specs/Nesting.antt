@@ -1,6 +1,7 @@
 -- How deep groups stand in each other.
 use Rattle.std.specs.Prelude.{ℕ, suc, max, List, [], ◌∷◌}
-use Rattle.dy_tree.specs.Fragments.{SeenFragment, one, group, SeenFragments, no_fragment, fragment_and}
+use Rattle.dy_tree.specs.Fragments.{SeenFragment, one, group, SeenFragments, no_fragment}
+use Rattle.dy_tree.specs.Fragments.{fragment_and}
 
 abbrev mutual
   pub group_nesting : SeenFragment → ℕ

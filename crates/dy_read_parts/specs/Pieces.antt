@@ -1,5 +1,6 @@
 -- The pieces that fragments are cut into, one after the other.
-use Rattle.std.specs.Prelude.{◌<◌, ◌≤◌, ⊤, ℕ, suc, length, Bool, false, not, ◌&&◌, if◌then◌else◌, List, [], ◌∷◌, ◌++◌, Option, Some, None}
+use Rattle.std.specs.Prelude.{◌<◌, ◌≤◌, ⊤, ℕ, suc, length, Bool, false, not, ◌&&◌, if◌then◌else◌}
+use Rattle.std.specs.Prelude.{List, [], ◌∷◌, ◌++◌, Option, Some, None}
 use Rattle.std.specs.Borrow.{Bor}
 use Rattle.dy_tree.specs.declared.fragment.Fragment.{Fragment}
 use Rattle.dy_tree.specs.Fragments.{SeenFragment, seen_fragments}
@@ -10,7 +11,8 @@ use Rattle.dy_rules.specs.Fragments.{items_of}
 -- how many fragments stand in front of the first separator
 abbrev pub front_len : (SeenFragment → Bool) → Bool → List SeenFragment → ℕ
 front_len separates bound [] = 0
-front_len separates bound (first ∷ rest) = if not bound && separates first then 0 else suc (front_len separates (is_let first) rest)
+front_len separates bound (first ∷ rest) =
+    if not bound && separates first then 0 else suc (front_len separates (is_let first) rest)
 
 abbrev pub piece_and : SeenFragment → Pieces → List Piece
 piece_and separator behind = record { separator = separator; items = behind.first } ∷ behind.others
@@ -50,7 +52,8 @@ left None = 0
 left (Some slice) = suc (length slice.now)
 
 -- parts with separators between them, of which each is read
-abbrev pub each_part : {A : Type 0} → (SeenFragment → Bool) → (List Item → Option A) → Option (List SeenFragment) → Option (List A)
+abbrev pub each_part : {A : Type 0} → (SeenFragment → Bool) → (List Item → Option A)
+    → Option (List SeenFragment) → Option (List A)
 each_part separates read None = Some []
 each_part separates read (Some fragments) = each read (cut separates false (items_of fragments))
 

@@ -14,8 +14,13 @@ is_wanted wanted.Definition = is_definition_word
 is_wanted wanted.Slot = is_slot_word
 
 abbrev pub seen_words : Found → WordsFront
-seen_words found = record { adjectives = found.adjectives.items; token = found.token.now; rest = items_of (seen_fragments found.rest.now) }
+seen_words found = record {
+  adjectives = found.adjectives.items;
+  token = found.token.now;
+  rest = items_of (seen_fragments found.rest.now);
+}
 
 -- with these adjectives before the others
 abbrev pub with_words : List Token → WordsFront → WordsFront
-with_words before front = record { adjectives = before ++ front.adjectives; token = front.token; rest = front.rest }
+with_words before front =
+    record { adjectives = before ++ front.adjectives; token = front.token; rest = front.rest }

@@ -4,7 +4,8 @@ ghost use Rattle.std.specs.Prelude.{◌≡◌, ◌≤◌, length, take, drop, op
 ghost use Rattle.dy_tree.specs.Fragments.{seen_fragments};
 ghost use Rattle.dy_rules.specs.Cutting.{cut};
 ghost use Rattle.dy_rules.specs.Fragments.{items_of};
-ghost use Rattle.dy_read_parts.specs.Pieces.{front_len, pieces_behind, behind_first, seen_slice, IsShorter, IsWithin};
+ghost use Rattle.dy_read_parts.specs.Pieces.{front_len, pieces_behind, behind_first, seen_slice};
+ghost use Rattle.dy_read_parts.specs.Pieces.{IsShorter, IsWithin};
 ghost use Rattle.dy_read_parts.specs.Nesting.{nesting};
 ghost use Rattle.dy_read_parts.specs.Separators.{separates};
 
@@ -31,7 +32,10 @@ pub fn front_len(separator: Separator, bound: bool, fragments: &[Fragment]) -> u
 /// How many fragments stand in front of the first separator, so that the rest begins with it.
 #[tactic(auto, using(crate::proofs::PieceRows::cut_at))]
 pub fn piece_len(separator: Separator, bound: bool, fragments: &[Fragment]) -> usize
-    ensures pieces { cut (separates separator) bound (items_of (seen_fragments fragments.now)) ≡ pieces_behind (separates separator) (items_of (seen_fragments (take result fragments.now))) (seen_fragments (drop result fragments.now)) }
+    ensures pieces { cut (separates separator) bound (items_of (seen_fragments fragments.now))
+        ≡ pieces_behind (separates separator)
+        (items_of (seen_fragments (take result fragments.now)))
+        (seen_fragments (drop result fragments.now)) }
     ensures within { result ≤ length fragments.now }
 {
     front_len(separator, bound, fragments)
@@ -44,9 +48,12 @@ pub fn split_piece<'a>(
     bound: bool,
     fragments: &'a [Fragment],
 ) -> (&'a [Fragment], &'a [Fragment])
-    ensures pieces { cut (separates separator) bound (items_of (seen_fragments fragments.now)) ≡ pieces_behind (separates separator) (items_of (seen_fragments result.0.now)) (seen_fragments result.1.now) }
+    ensures pieces { cut (separates separator) bound (items_of (seen_fragments fragments.now))
+        ≡ pieces_behind (separates separator) (items_of (seen_fragments result.0.now))
+        (seen_fragments result.1.now) }
     ensures piece { nesting (seen_fragments result.0.now) ≤ nesting (seen_fragments fragments.now) }
-    ensures others { nesting (seen_fragments result.1.now) ≤ nesting (seen_fragments fragments.now) }
+    ensures others { nesting (seen_fragments result.1.now) ≤ nesting
+        (seen_fragments fragments.now) }
     ensures len { length result.1.now ≤ length fragments.now }
 {
     fragments.split_at(piece_len(separator, bound, fragments))

@@ -27,7 +27,9 @@ pub enum FormFront<'a> {
 }
 
 fn front_of_group<'a>(opener: &'a Token, inner: &'a [Fragment], closer: &'a Token) -> FormFront<'a>
-    ensures { seen_form_front result ≡ spec.front_of_group (rules.bracket_of opener.now closer.now) opener.now (pack (seen_fragments inner.now)) }
+    ensures { seen_form_front result
+        ≡ spec.front_of_group (rules.bracket_of opener.now closer.now) opener.now
+        (pack (seen_fragments inner.now)) }
 {
     match bracket_of(opener, closer) {
         Bracket::Statement(Keyword::Define) => FormFront::Group {
@@ -39,7 +41,8 @@ fn front_of_group<'a>(opener: &'a Token, inner: &'a [Fragment], closer: &'a Toke
 }
 
 fn front_of_token<'a>(token: &'a Token, rest: &'a [Fragment]) -> FormFront<'a>
-    ensures { seen_form_front result ≡ spec.front_of_token (rules.role_of token.now) token.now (seen_fragments rest.now) }
+    ensures { seen_form_front result
+        ≡ spec.front_of_token (rules.role_of token.now) token.now (seen_fragments rest.now) }
 {
     match role_of(token) {
         Role::Defines => FormFront::Flat {
@@ -51,7 +54,8 @@ fn front_of_token<'a>(token: &'a Token, rest: &'a [Fragment]) -> FormFront<'a>
 }
 
 fn front_from<'a>(first: &'a Fragment, rest: &'a [Fragment]) -> FormFront<'a>
-    ensures { seen_form_front result ≡ spec.form_front (seen_fragment first.now ∷ seen_fragments rest.now) }
+    ensures { seen_form_front result
+        ≡ spec.form_front (seen_fragment first.now ∷ seen_fragments rest.now) }
 {
     match first {
         Fragment::One(token) => front_of_token(token, rest),

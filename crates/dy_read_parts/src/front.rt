@@ -24,10 +24,15 @@ pub struct Front<'a> {
 
 /// Round brackets as the first fragment, and what stands behind it.
 fn round_at<'a>(first: &'a Fragment, rest: &'a [Fragment]) -> Option<Front<'a>>
-    ensures front { option_map seen_front result ≡ headed (items_of (seen_fragment first.now ∷ seen_fragments rest.now)) }
-    ensures is_round { IfSome result (λ front. bracket_of front.opener.now front.closer.now ≡ brackets.Round) }
-    ensures nested { IfSome result (λ front. nesting (seen_fragments front.inner.now) < group_nesting (seen_fragment first.now)) }
-    ensures behind { IfSome result (λ front. nesting (seen_fragments front.rest.now) ≤ nesting (seen_fragments rest.now)) }
+    ensures front { option_map seen_front result
+        ≡ headed (items_of (seen_fragment first.now ∷ seen_fragments rest.now)) }
+    ensures is_round { IfSome result
+        (λ front. bracket_of front.opener.now front.closer.now ≡ brackets.Round) }
+    ensures nested { IfSome result
+        (λ front. nesting (seen_fragments front.inner.now) < group_nesting
+        (seen_fragment first.now)) }
+    ensures behind { IfSome result
+        (λ front. nesting (seen_fragments front.rest.now) ≤ nesting (seen_fragments rest.now)) }
 {
     match first {
         Fragment::Group {
@@ -46,10 +51,16 @@ fn round_at<'a>(first: &'a Fragment, rest: &'a [Fragment]) -> Option<Front<'a>>
 
 /// Round brackets in front.
 pub fn headed(fragments: &[Fragment]) -> Option<Front<'_>>
-    ensures front { option_map seen_front result ≡ headed (items_of (seen_fragments fragments.now)) }
-    ensures is_round { IfSome result (λ front. bracket_of front.opener.now front.closer.now ≡ brackets.Round) }
-    ensures nested { IfSome result (λ front. nesting (seen_fragments front.inner.now) < nesting (seen_fragments fragments.now)) }
-    ensures behind { IfSome result (λ front. nesting (seen_fragments front.rest.now) ≤ nesting (seen_fragments fragments.now)) }
+    ensures front { option_map seen_front result
+        ≡ headed (items_of (seen_fragments fragments.now)) }
+    ensures is_round { IfSome result
+        (λ front. bracket_of front.opener.now front.closer.now ≡ brackets.Round) }
+    ensures nested { IfSome result
+        (λ front. nesting (seen_fragments front.inner.now) < nesting
+        (seen_fragments fragments.now)) }
+    ensures behind { IfSome result
+        (λ front. nesting (seen_fragments front.rest.now) ≤ nesting
+        (seen_fragments fragments.now)) }
 {
     match fragments.split_first() {
         Some((first, rest)) => round_at(first, rest),

@@ -32,7 +32,8 @@ pub enum PieceKind<'a> {
 
 /// What a piece is that does not begin with `otherwise`.
 fn kind_of_arrows(fragments: &[Fragment]) -> PieceKind<'_>
-    ensures kind { seen_kind result ≡ kind_cut (cut is_arrow false (items_of (seen_fragments fragments.now))) }
+    ensures kind { seen_kind result
+        ≡ kind_cut (cut is_arrow false (items_of (seen_fragments fragments.now))) }
     ensures nested { IsKindWithin (nesting (seen_fragments fragments.now)) result }
 {
     let (tests, others) = split_piece(Separator::Arrow, false, fragments);

@@ -41,7 +41,8 @@ pub fn symbol_in(fragments: &[Fragment]) -> Result<Option<Token>, AllocError>
 /// The name of a setter, or `#f`, that stands alone.
 #[tactic(auto, using(crate::proofs::NameRows::setter_alone))]
 pub fn setter_in(fragments: &[Fragment]) -> Result<Option<SlotOption>, AllocError>
-    ensures { IfOk result (λ found. option_map seen_option found ≡ setter_in (seen_fragments fragments.now)) }
+    ensures { IfOk result (λ found. option_map seen_option found
+        ≡ setter_in (seen_fragments fragments.now)) }
 {
     match token_alone(fragments) {
         Some(token) if is_setter(token) => Ok(Some(SlotOption::Setter(token.copy()?))),
@@ -88,7 +89,8 @@ pub fn name_in(fragments: &[Fragment]) -> Result<Option<Token>, AllocError>
 
 /// Names with commas between them.
 pub fn names_in(alloc: Global, fragments: &[Fragment]) -> Result<Option<Vec<Token>>, AllocError>
-    ensures { IfOk result (λ found. option_map tokens_in found ≡ names_in (seen_fragments fragments.now)) }
+    ensures { IfOk result (λ found. option_map tokens_in found
+        ≡ names_in (seen_fragments fragments.now)) }
 {
     let mut names = Vec::new(alloc);
     let mut rest = fragments;
@@ -109,7 +111,8 @@ pub fn names_in(alloc: Global, fragments: &[Fragment]) -> Result<Option<Vec<Toke
 /// The same between brackets.
 #[tactic(auto, using(dy_rules::proofs::Lists::row_pack))]
 pub fn names_inside(alloc: Global, front: &Front<'_>) -> Result<Option<Vec<Token>>, AllocError>
-    ensures { IfOk result (λ found. option_map tokens_in found ≡ names_inside (seen_front front.now).first.fragment) }
+    ensures { IfOk result (λ found. option_map tokens_in found
+        ≡ names_inside (seen_front front.now).first.fragment) }
 {
     names_in(alloc, front.inner)
 }

@@ -36,8 +36,11 @@ pub fn cut(
     bound: bool,
     fragments: &[Fragment],
 ) -> Result<Pieces<'_>, AllocError>
-    ensures pieces { IfOk result (λ pieces. seen_pieces pieces ≡ cut (separates separator) bound (items_of (seen_fragments fragments.now))) }
-    ensures nested { IfOk result (λ pieces. AreWithin (nesting (seen_fragments fragments.now)) pieces) }
+    ensures pieces { IfOk result
+        (λ pieces. seen_pieces pieces
+        ≡ cut (separates separator) bound (items_of (seen_fragments fragments.now))) }
+    ensures nested { IfOk result
+        (λ pieces. AreWithin (nesting (seen_fragments fragments.now)) pieces) }
 {
     let (first, behind_first) = split_piece(separator, bound, fragments);
     let mut others = Vec::new(alloc);

@@ -34,9 +34,14 @@ fn place_of_equals(fragments: &[Fragment]) -> Option<usize>
 /// What stands on both sides of the first `=`.
 #[tactic(auto, using(crate::proofs::FirstCuts::sides_found))]
 pub fn sides_of_equals(fragments: &[Fragment]) -> Option<Sides<'_>>
-    ensures sides { option_map seen_sides result ≡ first_cut is_equals_at (items_of (seen_fragments fragments.now)) }
-    ensures before { IfSome result (λ sides. nesting (seen_fragments sides.before.now) ≤ nesting (seen_fragments fragments.now)) }
-    ensures after { IfSome result (λ sides. nesting (seen_fragments sides.after.now) ≤ nesting (seen_fragments fragments.now)) }
+    ensures sides { option_map seen_sides result
+        ≡ first_cut is_equals_at (items_of (seen_fragments fragments.now)) }
+    ensures before { IfSome result
+        (λ sides. nesting (seen_fragments sides.before.now) ≤ nesting
+        (seen_fragments fragments.now)) }
+    ensures after { IfSome result
+        (λ sides. nesting (seen_fragments sides.after.now) ≤ nesting
+        (seen_fragments fragments.now)) }
 {
     match place_of_equals(fragments) {
         Some(at) => Some(Sides {

@@ -13,7 +13,8 @@ use dy_tree::Fragment;
 
 /// Without a semicolon at the end.
 pub fn without_end(fragments: &[Fragment]) -> &[Fragment]
-    ensures items { items_of (seen_fragments result.now) ≡ without_end (items_of (seen_fragments fragments.now)) }
+    ensures items { items_of (seen_fragments result.now)
+        ≡ without_end (items_of (seen_fragments fragments.now)) }
     ensures nested { nesting (seen_fragments result.now) ≤ nesting (seen_fragments fragments.now) }
 {
     match fragments.split_last() {
@@ -24,7 +25,8 @@ pub fn without_end(fragments: &[Fragment]) -> &[Fragment]
 
 /// Without a semicolon at the front.
 pub fn without_front(fragments: &[Fragment]) -> &[Fragment]
-    ensures items { items_of (seen_fragments result.now) ≡ without_front (items_of (seen_fragments fragments.now)) }
+    ensures items { items_of (seen_fragments result.now)
+        ≡ without_front (items_of (seen_fragments fragments.now)) }
     ensures nested { nesting (seen_fragments result.now) ≤ nesting (seen_fragments fragments.now) }
 {
     match fragments.split_first() {
@@ -35,7 +37,8 @@ pub fn without_front(fragments: &[Fragment]) -> &[Fragment]
 
 /// Without an arrow at the front.
 pub fn without_arrow(fragments: &[Fragment]) -> &[Fragment]
-    ensures items { items_of (seen_fragments result.now) ≡ without_arrow (items_of (seen_fragments fragments.now)) }
+    ensures items { items_of (seen_fragments result.now)
+        ≡ without_arrow (items_of (seen_fragments fragments.now)) }
     ensures nested { nesting (seen_fragments result.now) ≤ nesting (seen_fragments fragments.now) }
 {
     match fragments.split_first() {

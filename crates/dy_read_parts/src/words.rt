@@ -44,7 +44,8 @@ pub fn words_front(
     wanted: Wanted,
     fragments: &[Fragment],
 ) -> Result<Option<WordsFront<'_>>, AllocError>
-    ensures { IfOk result (λ found. option_map seen_words found ≡ words_front (is_wanted wanted) (items_of (seen_fragments fragments.now))) }
+    ensures { IfOk result (λ found. option_map seen_words found
+        ≡ words_front (is_wanted wanted) (items_of (seen_fragments fragments.now))) }
 {
     let mut adjectives = Vec::new(alloc);
     let mut rest = fragments;

@@ -1,5 +1,6 @@
 -- What a clause of a `for` stands for, with its variable.
-use Rattle.std.specs.Prelude.{◌≡◌, ◌≤◌, max, ⊤, ℕ, List, Option, Some, None, option_map, option_and_then}
+use Rattle.std.specs.Prelude.{◌≡◌, ◌≤◌, max, ⊤, ℕ, List, Option, Some, None, option_map}
+use Rattle.std.specs.Prelude.{option_and_then}
 use Rattle.dy_tree.specs.Fragments.{seen_fragments}
 use Rattle.dy_rules.specs.Trees.{ForClause}
 use Rattle.dy_rules.specs.Cutting.{Piece}
@@ -20,7 +21,10 @@ clause_read (Some shape) = parts_read (read_variable shape.variable) shape.parts
 
 -- what is read of the clause whose variable stands in front
 abbrev pub FrontReads : Option VariableFront → List Piece → Option ClauseShape → Type 0
-FrontReads front others shape = (found : Option reading.VariableFront) → option_map seen_front front ≡ option_map capped_front found → clause_read shape ≡ option_map (changed_for capping) (option_and_then (clause_with others) found)
+FrontReads front others shape = (found : Option reading.VariableFront)
+    → option_map seen_front front ≡ option_map capped_front found
+    → clause_read shape ≡ option_map (changed_for capping)
+    (option_and_then (clause_with others) found)
 
 abbrev pub IsFrontWithin : ℕ → Option VariableFront → Type 0
 IsFrontWithin n None = ⊤

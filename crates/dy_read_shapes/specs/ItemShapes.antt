@@ -1,5 +1,6 @@
 -- How an item of a body is divided, and what stands for each part.
-use Rattle.std.specs.Prelude.{◌≤◌, ◌<◌, ⊤, ℕ, false, List, Option, Some, None, option_map, option_and_then}
+use Rattle.std.specs.Prelude.{◌≤◌, ◌<◌, ⊤, ℕ, false, List, Option, Some, None, option_map}
+use Rattle.std.specs.Prelude.{option_and_then}
 use Rattle.dy_tree.specs.declared.token.Token.{Token}
 use Rattle.dy_tree.specs.Fragments.{seen_fragments}
 use Rattle.dy_tree.specs.declared.splitters.Splitting.{Splitting}
@@ -37,23 +38,33 @@ methods_items items = each method_alone (cut is_comma_fragment false items)
 -- what stands for an item that is divided so
 abbrev pub shape_read : Splitting → ItemShape → Option ItemTree
 shape_read words shapes.Nothing = None
-shape_read words (shapes.Let word target assigned) = let_read word.now (target_items (items_of (seen_fragments target.now))) (expression_items words (items_of (seen_fragments assigned.now)))
-shape_read words (shapes.Handler word condition handler) = handler_read word.now (type_items (items_of (seen_fragments condition.now))) (expression_items words (items_of (seen_fragments handler.now)))
-shape_read words (shapes.Local word methods) = option_map (local_of word.now) (methods_items (items_of (seen_fragments methods.now)))
-shape_read words (shapes.Expression fragments) = option_map expression_item (expression_items words (items_of (seen_fragments fragments.now)))
+shape_read words (shapes.Let word target assigned) =
+    let_read word.now (target_items (items_of (seen_fragments target.now)))
+    (expression_items words (items_of (seen_fragments assigned.now)))
+shape_read words (shapes.Handler word condition handler) =
+    handler_read word.now (type_items (items_of (seen_fragments condition.now)))
+    (expression_items words (items_of (seen_fragments handler.now)))
+shape_read words (shapes.Local word methods) =
+    option_map (local_of word.now) (methods_items (items_of (seen_fragments methods.now)))
+shape_read words (shapes.Expression fragments) =
+    option_map expression_item (expression_items words (items_of (seen_fragments fragments.now)))
 
 -- no part of it is nested deeper
 abbrev pub IsShapeWithin : ℕ → ItemShape → Type 0
 IsShapeWithin n shapes.Nothing = ⊤
-IsShapeWithin n (shapes.Let word target assigned) = (nesting (seen_fragments target.now) ≤ n) × (nesting (seen_fragments assigned.now) ≤ n)
-IsShapeWithin n (shapes.Handler word condition handler) = (nesting (seen_fragments condition.now) ≤ n) × (nesting (seen_fragments handler.now) ≤ n)
+IsShapeWithin n (shapes.Let word target assigned) = (nesting (seen_fragments target.now) ≤ n)
+    × (nesting (seen_fragments assigned.now) ≤ n)
+IsShapeWithin n (shapes.Handler word condition handler) =
+    (nesting (seen_fragments condition.now) ≤ n) × (nesting (seen_fragments handler.now) ≤ n)
 IsShapeWithin n (shapes.Local word methods) = nesting (seen_fragments methods.now) ≤ n
 IsShapeWithin n (shapes.Expression fragments) = nesting (seen_fragments fragments.now) ≤ n
 
 -- what stands for a method that stands alone
 abbrev pub method_read : Option MethodGroup → Option LocalMethod
 method_read None = None
-method_read (Some group) = option_map (method_tree_of group.word.now) (named_items (items_of (seen_fragments group.inner.now)))
+method_read (Some group) =
+    option_map (method_tree_of group.word.now)
+    (named_items (items_of (seen_fragments group.inner.now)))
 
 abbrev pub IsMethodShallower : ℕ → Option MethodGroup → Type 0
 IsMethodShallower n None = ⊤

@@ -37,11 +37,14 @@ abbrev pub required_each : List RequiredTree → Option Listed → Option Listed
 required_each [] found = found
 required_each (required ∷ others) found = after_required (required_each others found) required
 
-abbrev pub each_before : List RequiredTree → Option Token → Option Token → Option Listed → Option Listed
-each_before required next rest found = required_each required (next_each next (rest_each rest found))
+abbrev pub each_before : List RequiredTree → Option Token → Option Token → Option Listed
+    → Option Listed
+each_before required next rest found =
+    required_each required (next_each next (rest_each rest found))
 
 abbrev pub heads_before : ListHeads → Option Listed → Option Listed
-heads_before heads found = each_before (read_each_required heads.required.items) heads.next heads.rest found
+heads_before heads found =
+    each_before (read_each_required heads.required.items) heads.next heads.rest found
 
 abbrev pub heads_read : Option ListHeads → Option Listed → Option Listed
 heads_read None found = None
@@ -54,16 +57,19 @@ keys_left (Some slice) = keys_listed (seen_fragments slice.now)
 
 abbrev pub heads_found : Option ListFront → Option Listed
 heads_found None = None
-heads_found (Some front) = heads_before front.heads (option_map capped_listed (keys_left front.keys))
+heads_found (Some front) =
+    heads_before front.heads (option_map capped_listed (keys_left front.keys))
 
 -- how deep they are with what was read before
 abbrev pub HeadsDepth : ℕ → ℕ → Option ListHeads → Type 0
 HeadsDepth old new None = ⊤
-HeadsDepth old new (Some heads) = new ≡ max old (required_depth (read_each_required heads.required.items))
+HeadsDepth old new (Some heads) =
+    new ≡ max old (required_depth (read_each_required heads.required.items))
 
 abbrev pub FrontDepth : ℕ → ℕ → Option ListFront → Type 0
 FrontDepth old new None = ⊤
-FrontDepth old new (Some front) = new ≡ max old (required_depth (read_each_required front.heads.required.items))
+FrontDepth old new (Some front) =
+    new ≡ max old (required_depth (read_each_required front.heads.required.items))
 
 -- what stands behind `#key` is nested at most so deep
 abbrev pub IsFrontWithin : ℕ → Option ListFront → Type 0

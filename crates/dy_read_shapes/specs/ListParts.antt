@@ -1,5 +1,6 @@
 -- The parts of a parameter list, one after the other.
-use Rattle.std.specs.Prelude.{◌≤◌, ⊤, ℕ, Bool, true, false, List, [], ◌∷◌, Option, Some, None, option_map, option_and_then}
+use Rattle.std.specs.Prelude.{◌≤◌, ⊤, ℕ, Bool, true, false, List, [], ◌∷◌, Option, Some, None}
+use Rattle.std.specs.Prelude.{option_map, option_and_then}
 use Rattle.std.specs.Borrow.{Bor}
 use Rattle.dy_tree.specs.declared.fragment.Fragment.{Fragment}
 use Rattle.dy_tree.specs.Fragments.{SeenFragment, seen_fragments}
@@ -8,7 +9,8 @@ use Rattle.dy_tree.specs.declared.type_words.PartWord.TheVariants as part_words
 use Rattle.dy_rules.specs.Arguments.{is_comma_fragment}
 use Rattle.dy_rules.specs.Cutting.{Item, cut}
 use Rattle.dy_rules.specs.Fragments.{items_of}
-use Rattle.dy_rules.specs.Signatures.{required_items, listed_keys, part_kind, no_list, after_next, after_rest, after_required, listed_pieces}
+use Rattle.dy_rules.specs.Signatures.{required_items, listed_keys, part_kind, no_list, after_next}
+use Rattle.dy_rules.specs.Signatures.{after_rest, after_required, listed_pieces}
 use Rattle.dy_rules.specs.Trees.{Listed}
 use Rattle.dy_rules.specs.TypeReading.{name_items}
 use Rattle.dy_read_shapes.specs.declared.list_part.ListPart.{ListPart}
@@ -43,10 +45,12 @@ plain_part _ items found = option_and_then (after_required found) (required_item
 
 -- what stands behind `#key` as parameters
 abbrev pub keys_listed : List SeenFragment → Option Listed
-keys_listed fragments = option_map listed_keys (keys_behind_mark (cut is_comma_fragment false (items_of fragments)))
+keys_listed fragments = option_map listed_keys
+    (keys_behind_mark (cut is_comma_fragment false (items_of fragments)))
 
 abbrev pub part_read : ListPart → Option Listed
-part_read (parts.One word piece behind) = plain_part word (items_of (seen_fragments piece.now)) (listed_left behind)
+part_read (parts.One word piece behind) =
+    plain_part word (items_of (seen_fragments piece.now)) (listed_left behind)
 part_read (parts.Keys behind) = keys_listed (seen_fragments behind.now)
 part_read parts.Nothing = None
 

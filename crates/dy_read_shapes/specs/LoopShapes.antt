@@ -1,12 +1,15 @@
--- What the parts of a clause of a `for` stand for, with the deep tree in the place of what is too deep.
-use Rattle.std.specs.Prelude.{◌≤◌, ⊤, ℕ, max, List, map, Option, Some, None, option_map, option_and_then}
+-- What the parts of a clause of a `for` stand for, with the deep tree in the place of what is too
+-- deep.
+use Rattle.std.specs.Prelude.{◌≤◌, ⊤, ℕ, max, List, map, Option, Some, None, option_map}
+use Rattle.std.specs.Prelude.{option_and_then}
 use Rattle.dy_tree.specs.Fragments.{SeenFragment, seen_fragments}
 use Rattle.dy_tree.specs.declared.splitters.Splitting.TheVariants as splittings
 use Rattle.dy_rules.specs.Types.{VariableTree}
 use Rattle.dy_rules.specs.Trees.{Tree, ForClause, Otherwise, no_otherwise, no_limit, no_tree}
 use Rattle.dy_rules.specs.Reading.{expression_items}
 use Rattle.dy_rules.specs.Bodies.{body_items}
-use Rattle.dy_rules.specs.Loops.{Range, range_of, step_of, limit_with, then_of, in_of, from_with, finally_of}
+use Rattle.dy_rules.specs.Loops.{Range, range_of, step_of, limit_with, then_of, in_of, from_with}
+use Rattle.dy_rules.specs.Loops.{finally_of}
 use Rattle.dy_rules.specs.Fragments.{items_of}
 use Rattle.dy_rules_depth.specs.Changes.{changed_item}
 use Rattle.dy_rules_depth.specs.Capping.{capped, capping}
@@ -29,13 +32,16 @@ step_read lasts.Wrong = None
 
 abbrev pub finally_read : LastPiece → Option Otherwise
 finally_read lasts.Nothing = Some no_otherwise
-finally_read (lasts.Part fragments) = option_map finally_of (option_map (map (changed_item capping)) (body_items splittings.LastPart (items_of (seen_fragments fragments.now))))
+finally_read (lasts.Part fragments) =
+    option_map finally_of (option_map (map (changed_item capping))
+    (body_items splittings.LastPart (items_of (seen_fragments fragments.now))))
 finally_read lasts.Wrong = None
 
 -- The step stands in all of the pieces where there is no limit, and else in those behind it.
 abbrev pub limited_read : Option LimitShape → Option Range → Option Range → Option Range
 limited_read None all behind = all
-limited_read (Some limit) all behind = option_and_then (limit_with limit.word.now behind) (step_tree (seen_fragments limit.bound.now))
+limited_read (Some limit) all behind =
+    option_and_then (limit_with limit.word.now behind) (step_tree (seen_fragments limit.bound.now))
 
 abbrev pub range_read : RangeShape → Option Range
 range_read shape = limited_read shape.limit (step_read shape.step) (step_read shape.step)
@@ -45,9 +51,13 @@ next_with variable next first = option_map (then_of variable first) next
 
 abbrev pub parts_read : VariableTree → ClauseParts → Option ForClause
 parts_read variable parts.Nothing = None
-parts_read variable (parts.Then first next) = option_and_then (next_with variable (step_tree (seen_fragments next.now))) (step_tree (seen_fragments first.now))
-parts_read variable (parts.In collection) = option_map (in_of variable) (step_tree (seen_fragments collection.now))
-parts_read variable (parts.From start range) = option_and_then (from_with variable (range_read range)) (step_tree (seen_fragments start.now))
+parts_read variable (parts.Then first next) =
+    option_and_then (next_with variable (step_tree (seen_fragments next.now)))
+    (step_tree (seen_fragments first.now))
+parts_read variable (parts.In collection) =
+    option_map (in_of variable) (step_tree (seen_fragments collection.now))
+parts_read variable (parts.From start range) =
+    option_and_then (from_with variable (range_read range)) (step_tree (seen_fragments start.now))
 
 -- The parts are nested at most so deep.
 
@@ -65,9 +75,11 @@ IsRangeWithin n shape = IsLimitWithin n shape.limit × IsLastWithin n shape.step
 
 abbrev pub ArePartsWithin : ℕ → ClauseParts → Type 0
 ArePartsWithin n parts.Nothing = ⊤
-ArePartsWithin n (parts.Then first next) = (nesting (seen_fragments first.now) ≤ n) × (nesting (seen_fragments next.now) ≤ n)
+ArePartsWithin n (parts.Then first next) = (nesting (seen_fragments first.now) ≤ n)
+    × (nesting (seen_fragments next.now) ≤ n)
 ArePartsWithin n (parts.In collection) = nesting (seen_fragments collection.now) ≤ n
-ArePartsWithin n (parts.From start range) = (nesting (seen_fragments start.now) ≤ n) × IsRangeWithin n range
+ArePartsWithin n (parts.From start range) = (nesting (seen_fragments start.now) ≤ n)
+    × IsRangeWithin n range
 
 -- how deep the deepest of the parts is nested
 
@@ -85,6 +97,8 @@ range_nesting shape = max (limit_nesting shape.limit) (last_nesting shape.step)
 
 abbrev pub parts_nesting : ClauseParts → ℕ
 parts_nesting parts.Nothing = 0
-parts_nesting (parts.Then first next) = max (nesting (seen_fragments first.now)) (nesting (seen_fragments next.now))
+parts_nesting (parts.Then first next) =
+    max (nesting (seen_fragments first.now)) (nesting (seen_fragments next.now))
 parts_nesting (parts.In collection) = nesting (seen_fragments collection.now)
-parts_nesting (parts.From start range) = max (nesting (seen_fragments start.now)) (range_nesting range)
+parts_nesting (parts.From start range) =
+    max (nesting (seen_fragments start.now)) (range_nesting range)

@@ -6,4 +6,5 @@ use Rattle.dy_read_parts.specs.declared.pieces.Piece.{Piece}
 
 abbrev pub pieces_nesting : List Piece → ℕ
 pieces_nesting [] = 0
-pieces_nesting (piece ∷ rest) = max (nesting (seen_fragments piece.fragments.now)) (pieces_nesting rest)
+pieces_nesting (piece ∷ rest) =
+    max (nesting (seen_fragments piece.fragments.now)) (pieces_nesting rest)

@@ -1,5 +1,6 @@
 -- The keyword parameters that were read.
-use Rattle.std.specs.Prelude.{◌≡◌, ◌≤◌, ℕ, max, ⊤, Bool, false, List, [], ◌∷◌, map, Option, Some, None, option_map}
+use Rattle.std.specs.Prelude.{◌≡◌, ◌≤◌, ℕ, max, ⊤, Bool, false, List, [], ◌∷◌, map, Option, Some}
+use Rattle.std.specs.Prelude.{None, option_map}
 use Rattle.std.specs.Borrow.{Bor}
 use Rattle.dy_tree.specs.declared.token.Token.{Token}
 use Rattle.dy_tree.specs.declared.expression.Key.{Key}
@@ -14,15 +15,16 @@ use Rattle.dy_tree.specs.declared.splitters.Splitting.TheVariants as splittings
 use Rattle.dy_rules.specs.Depth.{key_depth, keys_depth}
 use Rattle.dy_rules.specs.Fragments.{items_of}
 use Rattle.dy_rules.specs.Reading.{expression_items}
-use Rattle.dy_rules.specs.Signatures.{initial_of, is_all_keys, key_items, keys_of_found, with_key, keys_in, keys_from}
+use Rattle.dy_rules.specs.Signatures.{initial_of, is_all_keys, key_items, keys_of_found, with_key}
+use Rattle.dy_rules.specs.Signatures.{keys_in, keys_from}
 use Rattle.dy_rules.specs.Trees as trees
 use Rattle.dy_rules.specs.Trees.{MaybeTree, no_tree, some_tree, KeysTree, keys_of}
 use Rattle.dy_rules_depth.specs.Changes.{changed_maybe, changed_key, changed_keys_tree}
 use Rattle.dy_rules_depth.specs.Capping.{capping, filling}
-use Rattle.dy_read_operators.specs.declared.grown.Grown.{Grown}
+use Rattle.dy_read_outers.specs.declared.grown.Grown.{Grown}
 use Rattle.dy_read_shapes.specs.declared.initial.Initial.{Initial}
 use Rattle.dy_read_shapes.specs.declared.initial.Initial.TheVariants as initials
-use Rattle.dy_read_operators.specs.Grown.{read_grown}
+use Rattle.dy_read_outers.specs.Grown.{read_grown}
 use Rattle.dy_rules.specs.Held.{held_key}
 use Rattle.dy_read_parts.specs.Nesting.{nesting}
 
@@ -30,7 +32,9 @@ use Rattle.dy_read_parts.specs.Nesting.{nesting}
 
 abbrev pub initial_read : Initial → Option MaybeTree
 initial_read initials.Absent = Some no_tree
-initial_read (initials.Value value) = option_map initial_of (expression_items splittings.Nothing (items_of (seen_fragments value.now)))
+initial_read (initials.Value value) =
+    option_map initial_of (expression_items splittings.Nothing
+    (items_of (seen_fragments value.now)))
 initial_read initials.Wrong = None
 
 abbrev pub IsInitialWithin : ℕ → Initial → Type 0
@@ -76,7 +80,8 @@ KeysDepth old new (Some read) = new ≡ max old (keys_depth (keys_of (read_each_
 
 -- the keys that fragments stand for, where the last part may be `#all-keys`
 abbrev pub keys_pieces : Pieces → Option KeysTree
-keys_pieces pieces = keys_in (record { separator = comma_mark; items = pieces.first } ∷ pieces.others)
+keys_pieces pieces = keys_in
+    (record { separator = comma_mark; items = pieces.first } ∷ pieces.others)
 
 abbrev pub all_at : List Item → Bool
 all_at items = is_all_keys (fragments_in items)
@@ -91,5 +96,6 @@ keys_behind_mark pieces = keys_from pieces.first pieces.others
 abbrev pub shape_read : KeysShape → List SeenFragment → Option KeysTree
 shape_read (shapes.Bare takes_all) fragments = Some (keys_of_found [] takes_all)
 shape_read shapes.Wrong fragments = None
-shape_read shapes.One fragments = with_key (key_items (items_of fragments)) (Some (keys_of_found [] false))
+shape_read shapes.One fragments =
+    with_key (key_items (items_of fragments)) (Some (keys_of_found [] false))
 shape_read shapes.Several fragments = keys_pieces (cut is_comma_fragment false (items_of fragments))

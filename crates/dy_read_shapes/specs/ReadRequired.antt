@@ -21,7 +21,8 @@ capped_required required = changed_required capping required
 -- a parameter that is compared, or a variable
 abbrev pub required_read : List Item → Option Identity → Option RequiredTree
 required_read items None = option_map required_variable (variable_items items)
-required_read items (Some identity) = single_at (seen_fragment identity.parameter.now) (single_in (seen_fragments identity.value.now))
+required_read items (Some identity) =
+    single_at (seen_fragment identity.parameter.now) (single_in (seen_fragments identity.value.now))
 
 -- how deep it is with what was read before
 abbrev pub RequiredDepth : ℕ → ℕ → Option Required → Type 0

@@ -34,8 +34,10 @@ fn shape_behind<'a>(
     others: &[Piece<'a>],
 ) -> Option<ClauseShape<'a>>
     ensures read { spec.FrontReads front.entry (map seen_piece others.now) result }
-    ensures nested { (n : ℕ) → spec.IsFrontWithin n front.entry → All (IsPieceWithin n) others.now → spec.IsClauseWithin n result }
-    ensures depth { (old new : ℕ) → variables.FrontDepth old new front.entry → spec.ShapeDepth old new result }
+    ensures nested { (n : ℕ) → spec.IsFrontWithin n front.entry → All (IsPieceWithin n) others.now
+        → spec.IsClauseWithin n result }
+    ensures depth { (old new : ℕ) → variables.FrontDepth old new front.entry
+        → spec.ShapeDepth old new result }
 {
     match front {
         Some(front) => Some(ClauseShape {
@@ -53,8 +55,12 @@ pub fn clause_shape<'a>(
     fragments: &'a [Fragment],
     depth: &mut usize,
 ) -> Result<Option<ClauseShape<'a>>, AllocError>
-    ensures read { IfOk result (λ found. spec.clause_read found ≡ option_map (changed_for capping) (loops.clause_items (items_of (seen_fragments fragments.now)))) }
-    ensures nested { IfOk result (λ found. spec.IsClauseWithin (nesting (seen_fragments fragments.now)) found) }
+    ensures read { IfOk result
+        (λ found. spec.clause_read found
+        ≡ option_map (changed_for capping)
+        (loops.clause_items (items_of (seen_fragments fragments.now)))) }
+    ensures nested { IfOk result
+        (λ found. spec.IsClauseWithin (nesting (seen_fragments fragments.now)) found) }
     ensures depth { IfOk result (λ found. spec.ShapeDepth depth.old depth.new found) }
 {
     let pieces = cut(

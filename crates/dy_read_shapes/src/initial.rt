@@ -23,7 +23,8 @@ pub enum Initial<'a> {
 
 /// What the fragments behind a variable are.
 pub fn initial_in(fragments: &[Fragment]) -> Initial<'_>
-    ensures initial { initial_items (items_of (seen_fragments fragments.now)) ≡ initial_read result }
+    ensures initial { initial_items (items_of (seen_fragments fragments.now))
+        ≡ initial_read result }
     ensures nested { IsInitialWithin (nesting (seen_fragments fragments.now)) result }
 {
     match fragments.split_first() {

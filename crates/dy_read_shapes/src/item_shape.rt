@@ -7,7 +7,8 @@ ghost use Rattle.dy_rules.specs.Bodies as spec;
 ghost use Rattle.dy_rules.specs.Cutting.{first_cut};
 ghost use Rattle.dy_rules.specs.Fragments.{items_of, found_in};
 ghost use Rattle.dy_rules.specs.Signatures.{named_items};
-ghost use Rattle.dy_read_shapes.specs.ItemShapes.{shape_read, IsShapeWithin, method_read, IsMethodShallower};
+ghost use Rattle.dy_read_shapes.specs.ItemShapes.{shape_read, IsShapeWithin, method_read};
+ghost use Rattle.dy_read_shapes.specs.ItemShapes.{IsMethodShallower};
 ghost use Rattle.dy_read_parts.specs.Nesting.{group_nesting, nesting};
 
 use dy_read_parts::binding::binds_plainly;
@@ -44,8 +45,11 @@ pub enum ItemShape<'a> {
 
 /// What is bound, by what stands on both sides of its `=`.
 fn bound_shape<'a>(word: &'a Token, sides: Sides<'a>) -> ItemShape<'a>
-    ensures shape { (words : Splitting) → spec.bound_from words word.now (items_of (seen_fragments sides.entry.before.now)) (items_of (seen_fragments sides.entry.after.now)) ≡ shape_read words result }
-    ensures nested { (n : ℕ) → nesting (seen_fragments sides.entry.before.now) ≤ n → nesting (seen_fragments sides.entry.after.now) ≤ n → IsShapeWithin n result }
+    ensures shape { (words : Splitting)
+        → spec.bound_from words word.now (items_of (seen_fragments sides.entry.before.now))
+        (items_of (seen_fragments sides.entry.after.now)) ≡ shape_read words result }
+    ensures nested { (n : ℕ) → nesting (seen_fragments sides.entry.before.now) ≤ n
+        → nesting (seen_fragments sides.entry.after.now) ≤ n → IsShapeWithin n result }
 {
     match sides.before.split_first() {
         None => ItemShape::Nothing,
@@ -69,7 +73,9 @@ fn bound_shape<'a>(word: &'a Token, sides: Sides<'a>) -> ItemShape<'a>
 
 /// What stands behind a `let`.
 fn let_shape<'a>(words: Splitting, word: &'a Token, rest: &'a [Fragment]) -> ItemShape<'a>
-    ensures shape { option_and_then (spec.let_sides words word.now) (first_cut spec.is_equals_at (items_of (seen_fragments rest.now))) ≡ shape_read words result }
+    ensures shape { option_and_then (spec.let_sides words word.now)
+        (first_cut spec.is_equals_at (items_of (seen_fragments rest.now)))
+        ≡ shape_read words result }
     ensures nested { IsShapeWithin (nesting (seen_fragments rest.now)) result }
 {
     match sides_of_equals(rest) {
@@ -86,7 +92,8 @@ fn let_shape<'a>(words: Splitting, word: &'a Token, rest: &'a [Fragment]) -> Ite
 
 /// How an item of a body is divided.
 pub fn item_shape<'a>(words: Splitting, fragments: &'a [Fragment]) -> ItemShape<'a>
-    ensures shape { spec.item_items words (items_of (seen_fragments fragments.now)) ≡ shape_read words result }
+    ensures shape { spec.item_items words (items_of (seen_fragments fragments.now))
+        ≡ shape_read words result }
     ensures nested { IsShapeWithin (nesting (seen_fragments fragments.now)) result }
 {
     match fragments.split_first() {
@@ -114,7 +121,8 @@ fn method_in<'a>(
     word: &'a Token,
     inner: &'a [Fragment],
 ) -> Option<MethodGroup<'a>>
-    ensures found { spec.method_in bracket word.now (named_items (items_of (seen_fragments inner.now))) ≡ method_read result }
+    ensures found { spec.method_in bracket word.now
+        (named_items (items_of (seen_fragments inner.now))) ≡ method_read result }
     ensures nested { (n : ℕ) → nesting (seen_fragments inner.now) < n → IsMethodShallower n result }
 {
     match bracket {
@@ -126,7 +134,8 @@ fn method_in<'a>(
 /// The method that a fragment is.
 #[tactic(auto, using(crate::proofs::ItemShapes::method_part))]
 fn method_at(fragment: &Fragment) -> Option<MethodGroup<'_>>
-    ensures found { spec.method_at (seen_fragment fragment.now) (found_in (seen_fragment fragment.now)).named_method ≡ method_read result }
+    ensures found { spec.method_at (seen_fragment fragment.now)
+        (found_in (seen_fragment fragment.now)).named_method ≡ method_read result }
     ensures nested { IsMethodShallower (group_nesting (seen_fragment fragment.now)) result }
 {
     match part_of(fragment) {
@@ -141,7 +150,8 @@ fn method_at(fragment: &Fragment) -> Option<MethodGroup<'_>>
 
 /// The method that stands alone.
 pub fn method_alone(fragments: &[Fragment]) -> Option<MethodGroup<'_>>
-    ensures found { spec.method_alone (items_of (seen_fragments fragments.now)) ≡ method_read result }
+    ensures found { spec.method_alone (items_of (seen_fragments fragments.now))
+        ≡ method_read result }
     ensures nested { IsMethodShallower (nesting (seen_fragments fragments.now)) result }
 {
     match fragments.split_first() {

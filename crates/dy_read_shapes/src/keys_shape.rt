@@ -26,7 +26,10 @@ pub enum KeysShape {
 }
 
 fn bare_before(fragments: &[Fragment]) -> KeysShape
-    ensures { (all : List SeenFragment) → option_and_then bare_of (keys_pieces (cut is_comma_fragment false (items_of (seen_fragments fragments.now)))) ≡ shape_read result all }
+    ensures { (all : List SeenFragment)
+        → option_and_then bare_of
+        (keys_pieces (cut is_comma_fragment false (items_of (seen_fragments fragments.now))))
+        ≡ shape_read result all }
 {
     match divide(Separator::Comma, fragments) {
         Some(_) => KeysShape::Wrong,
@@ -42,7 +45,9 @@ fn bare_before(fragments: &[Fragment]) -> KeysShape
 
 /// What the fragments behind `#key` are.
 pub fn keys_shape(fragments: &[Fragment]) -> KeysShape
-    ensures { keys_behind_mark (cut is_comma_fragment false (items_of (seen_fragments fragments.now))) ≡ shape_read result (seen_fragments fragments.now) }
+    ensures { keys_behind_mark
+        (cut is_comma_fragment false (items_of (seen_fragments fragments.now)))
+        ≡ shape_read result (seen_fragments fragments.now) }
 {
     match divide(Separator::Comma, fragments) {
         Some(division) => {

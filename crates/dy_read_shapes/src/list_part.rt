@@ -2,7 +2,8 @@
 
 ghost use Rattle.std.specs.Prelude.{◌≡◌, false, length};
 ghost use Rattle.dy_tree.specs.Fragments.{seen_fragments};
-ghost use Rattle.dy_read_shapes.specs.ListParts.{is_key_word, front_word, listed_parts, part_read, IsPartWithin, IsPartShorter};
+ghost use Rattle.dy_read_shapes.specs.ListParts.{is_key_word, front_word, listed_parts, part_read};
+ghost use Rattle.dy_read_shapes.specs.ListParts.{IsPartWithin, IsPartShorter};
 ghost use Rattle.dy_read_parts.specs.Nesting.{nesting};
 
 use dy_read_parts::separator::Separator;
@@ -33,7 +34,8 @@ fn is_key(word: PartWord) -> bool
 
 /// The parameter in front of the first comma.
 fn one_part(word: PartWord, fragments: &[Fragment]) -> ListPart<'_>
-    ensures part { word ≡ front_word (seen_fragments fragments.now) → false ≡ is_key_word word → listed_parts (seen_fragments fragments.now) ≡ part_read result }
+    ensures part { word ≡ front_word (seen_fragments fragments.now) → false ≡ is_key_word word
+        → listed_parts (seen_fragments fragments.now) ≡ part_read result }
     ensures shorter { IsPartShorter (length fragments.now) result }
     ensures nested { IsPartWithin (nesting (seen_fragments fragments.now)) result }
 {

@@ -66,7 +66,8 @@ pub enum ClauseParts<'a> {
 
 /// A piece behind `by`.
 fn step_at<'a>(piece: &Piece<'a>) -> LastPiece<'a>
-    ensures read { spec.step_read result ≡ option_map (changed_range capping) (loops.step_in (seen_piece piece.now ∷ [])) }
+    ensures read { spec.step_read result
+        ≡ option_map (changed_range capping) (loops.step_in (seen_piece piece.now ∷ [])) }
     ensures nested { (n : ℕ) → IsPieceWithin n piece.now → spec.IsLastWithin n result }
 {
     match word_of(piece.separator) {
@@ -77,7 +78,8 @@ fn step_at<'a>(piece: &Piece<'a>) -> LastPiece<'a>
 
 /// A step, or nothing.
 fn step_piece<'a>(others: &[Piece<'a>]) -> LastPiece<'a>
-    ensures read { spec.step_read result ≡ option_map (changed_range capping) (loops.step_in (map seen_piece others.now)) }
+    ensures read { spec.step_read result
+        ≡ option_map (changed_range capping) (loops.step_in (map seen_piece others.now)) }
     ensures nested { (n : ℕ) → All (IsPieceWithin n) others.now → spec.IsLastWithin n result }
 {
     match others {
@@ -90,7 +92,8 @@ fn step_piece<'a>(others: &[Piece<'a>]) -> LastPiece<'a>
 /// A piece behind `finally`.
 #[tactic(auto, using(crate::proofs::LoopShapes::finally_capped))]
 fn finally_at<'a>(piece: &Piece<'a>) -> LastPiece<'a>
-    ensures read { spec.finally_read result ≡ option_map (changed_otherwise capping) (loops.finally_in (seen_piece piece.now ∷ [])) }
+    ensures read { spec.finally_read result
+        ≡ option_map (changed_otherwise capping) (loops.finally_in (seen_piece piece.now ∷ [])) }
     ensures nested { (n : ℕ) → IsPieceWithin n piece.now → spec.IsLastWithin n result }
 {
     match word_of(piece.separator) {
@@ -101,7 +104,8 @@ fn finally_at<'a>(piece: &Piece<'a>) -> LastPiece<'a>
 
 /// The part behind `finally`, or nothing.
 pub fn finally_piece<'a>(others: &[Piece<'a>]) -> LastPiece<'a>
-    ensures read { spec.finally_read result ≡ option_map (changed_otherwise capping) (loops.finally_in (map seen_piece others.now)) }
+    ensures read { spec.finally_read result
+        ≡ option_map (changed_otherwise capping) (loops.finally_in (map seen_piece others.now)) }
     ensures nested { (n : ℕ) → All (IsPieceWithin n) others.now → spec.IsLastWithin n result }
 {
     match others {
@@ -114,7 +118,10 @@ pub fn finally_piece<'a>(others: &[Piece<'a>]) -> LastPiece<'a>
 /// The limit that a piece is.
 #[tactic(auto, using(crate::proofs::LoopShapes::limit_capped))]
 fn limit_at<'a>(piece: &Piece<'a>) -> Option<LimitShape<'a>>
-    ensures read { (others : List cutting.Piece) → spec.limited_read result (option_map (changed_range capping) (loops.step_in (seen_piece piece.now ∷ others))) (option_map (changed_range capping) (loops.step_in others))
+    ensures read { (others : List cutting.Piece)
+        → spec.limited_read result
+        (option_map (changed_range capping) (loops.step_in (seen_piece piece.now ∷ others)))
+        (option_map (changed_range capping) (loops.step_in others))
         ≡ option_map (changed_range capping) (loops.range_in (seen_piece piece.now ∷ others)) }
     ensures nested { (n : ℕ) → IsPieceWithin n piece.now → spec.IsLimitWithin n result }
 {
@@ -129,7 +136,8 @@ fn limit_at<'a>(piece: &Piece<'a>) -> Option<LimitShape<'a>>
 
 /// What follows the start.
 fn range_shape<'a>(others: &[Piece<'a>]) -> RangeShape<'a>
-    ensures read { spec.range_read result ≡ option_map (changed_range capping) (loops.range_in (map seen_piece others.now)) }
+    ensures read { spec.range_read result
+        ≡ option_map (changed_range capping) (loops.range_in (map seen_piece others.now)) }
     ensures nested { (n : ℕ) → All (IsPieceWithin n) others.now → spec.IsRangeWithin n result }
 {
     match others.split_first() {
@@ -152,7 +160,9 @@ fn range_shape<'a>(others: &[Piece<'a>]) -> RangeShape<'a>
 
 #[tactic(auto, using(crate::proofs::LoopShapes::from_capped))]
 fn from_parts<'a>(others: &[Piece<'a>]) -> ClauseParts<'a>
-    ensures read { (variable : typing.VariableTree) → spec.parts_read (changed_variable capping variable) result ≡ option_map (changed_for capping) (loops.from_in variable (map seen_piece others.now)) }
+    ensures read { (variable : typing.VariableTree)
+        → spec.parts_read (changed_variable capping variable) result
+        ≡ option_map (changed_for capping) (loops.from_in variable (map seen_piece others.now)) }
     ensures nested { (n : ℕ) → All (IsPieceWithin n) others.now → spec.ArePartsWithin n result }
 {
     match others.split_first() {
@@ -168,8 +178,12 @@ fn from_parts<'a>(others: &[Piece<'a>]) -> ClauseParts<'a>
 
 #[tactic(auto, using(crate::proofs::LoopShapes::then_capped))]
 fn then_parts<'a>(first: &'a [Fragment], others: &[Piece<'a>]) -> ClauseParts<'a>
-    ensures read { (variable : typing.VariableTree) → spec.parts_read (changed_variable capping variable) result ≡ option_map (changed_for capping) (loops.then_in variable (items_of (seen_fragments first.now)) (map seen_piece others.now)) }
-    ensures nested { (n : ℕ) → nesting (seen_fragments first.now) ≤ n → All (IsPieceWithin n) others.now → spec.ArePartsWithin n result }
+    ensures read { (variable : typing.VariableTree)
+        → spec.parts_read (changed_variable capping variable) result
+        ≡ option_map (changed_for capping)
+        (loops.then_in variable (items_of (seen_fragments first.now)) (map seen_piece others.now)) }
+    ensures nested { (n : ℕ) → nesting (seen_fragments first.now) ≤ n
+        → All (IsPieceWithin n) others.now → spec.ArePartsWithin n result }
 {
     match others {
         [piece] if matches!(word_of(piece.separator), Splitter::Then) => ClauseParts::Then {
@@ -182,8 +196,13 @@ fn then_parts<'a>(first: &'a [Fragment], others: &[Piece<'a>]) -> ClauseParts<'a
 
 #[tactic(auto, using(crate::proofs::LoopShapes::in_capped))]
 fn in_parts<'a>(collection: &'a [Fragment], others: &[Piece<'a>]) -> ClauseParts<'a>
-    ensures read { (variable : typing.VariableTree) → spec.parts_read (changed_variable capping variable) result ≡ option_map (changed_for capping) (loops.in_in variable (items_of (seen_fragments collection.now)) (map seen_piece others.now)) }
-    ensures nested { (n : ℕ) → nesting (seen_fragments collection.now) ≤ n → spec.ArePartsWithin n result }
+    ensures read { (variable : typing.VariableTree)
+        → spec.parts_read (changed_variable capping variable) result
+        ≡ option_map (changed_for capping)
+        (loops.in_in variable (items_of (seen_fragments collection.now))
+        (map seen_piece others.now)) }
+    ensures nested { (n : ℕ) → nesting (seen_fragments collection.now) ≤ n
+        → spec.ArePartsWithin n result }
 {
     if others.is_empty() {
         ClauseParts::In { collection }
@@ -195,8 +214,13 @@ fn in_parts<'a>(collection: &'a [Fragment], others: &[Piece<'a>]) -> ClauseParts
 /// The parts of a clause behind its variable: what stands in front of the first word that splits
 /// it, and the pieces behind such words.
 pub fn parts_behind<'a>(rest: &'a [Fragment], others: &[Piece<'a>]) -> ClauseParts<'a>
-    ensures read { (variable : typing.VariableTree) → spec.parts_read (changed_variable capping variable) result ≡ option_map (changed_for capping) (loops.clause_behind variable (items_of (seen_fragments rest.now)) (map seen_piece others.now)) }
-    ensures nested { (n : ℕ) → nesting (seen_fragments rest.now) ≤ n → All (IsPieceWithin n) others.now → spec.ArePartsWithin n result }
+    ensures read { (variable : typing.VariableTree)
+        → spec.parts_read (changed_variable capping variable) result
+        ≡ option_map (changed_for capping)
+        (loops.clause_behind variable (items_of (seen_fragments rest.now))
+        (map seen_piece others.now)) }
+    ensures nested { (n : ℕ) → nesting (seen_fragments rest.now) ≤ n
+        → All (IsPieceWithin n) others.now → spec.ArePartsWithin n result }
 {
     match rest.split_first() {
         Some((sign, behind)) => {

@@ -6,12 +6,13 @@ ghost use Rattle.dy_rules.specs.Fragments.{items_of};
 ghost use Rattle.dy_rules.specs.Signatures as signatures;
 ghost use Rattle.dy_rules.specs.Types.{required_variable};
 ghost use Rattle.dy_rules.specs.TypeReading as reading;
-ghost use Rattle.dy_read_shapes.specs.ReadRequired.{read_required, capped_required, required_read, RequiredDepth};
+ghost use Rattle.dy_read_shapes.specs.ReadRequired.{read_required, capped_required, required_read};
+ghost use Rattle.dy_read_shapes.specs.ReadRequired.{RequiredDepth};
 ghost use Rattle.dy_read_types.specs.VariableFronts.{read_variable};
 
+use dy_read_parts::depth::deepen;
 use dy_read_parts::mark::is_identity_at;
 use dy_read_parts::names::name_at;
-use dy_read_types::depth::deepen;
 use dy_read_types::single::single_in;
 use dy_read_types::variables::variable_items;
 use dy_tree::{Fragment, Required, Variable};
@@ -27,7 +28,8 @@ struct Identity<'a> {
 /// What stands on both sides of a `==` behind the first fragment.
 #[tactic(auto, using(dy_rules::proofs::Lists::fragments_back))]
 fn identity_in(fragments: &[Fragment]) -> Option<Identity<'_>>
-    ensures { signatures.required_items (items_of (seen_fragments fragments.now)) ≡ required_read (items_of (seen_fragments fragments.now)) result }
+    ensures { signatures.required_items (items_of (seen_fragments fragments.now))
+        ≡ required_read (items_of (seen_fragments fragments.now)) result }
 {
     match fragments.split_first() {
         Some((parameter, behind)) => match behind.split_first() {
@@ -51,7 +53,11 @@ fn single_at(
     value: &[Fragment],
     depth: &mut usize,
 ) -> Result<Option<Required>, AllocError>
-    ensures found { IfOk result (λ found. option_map read_required found ≡ option_map capped_required (signatures.single_at (seen_fragment parameter.now) (reading.single_in (seen_fragments value.now)))) }
+    ensures found { IfOk result
+        (λ found. option_map read_required found
+        ≡ option_map capped_required
+        (signatures.single_at (seen_fragment parameter.now)
+        (reading.single_in (seen_fragments value.now)))) }
     ensures depth { IfOk result (λ found. RequiredDepth depth.old depth.new found) }
 {
     match name_at(parameter) {
@@ -71,7 +77,8 @@ fn single_at(
 
 /// A parameter that takes any value of its type.
 fn any_value(variable: Option<Variable>) -> Option<Required>
-    ensures { option_map read_required result ≡ option_map required_variable (option_map read_variable variable) }
+    ensures { option_map read_required result
+        ≡ option_map required_variable (option_map read_variable variable) }
 {
     match variable {
         Some(variable) => Some(Required::Variable(variable)),
@@ -85,7 +92,10 @@ pub fn required_items(
     fragments: &[Fragment],
     depth: &mut usize,
 ) -> Result<Option<Required>, AllocError>
-    ensures found { IfOk result (λ found. option_map read_required found ≡ option_map capped_required (signatures.required_items (items_of (seen_fragments fragments.now)))) }
+    ensures found { IfOk result
+        (λ found. option_map read_required found
+        ≡ option_map capped_required
+        (signatures.required_items (items_of (seen_fragments fragments.now)))) }
     ensures depth { IfOk result (λ found. RequiredDepth depth.old depth.new found) }
 {
     match identity_in(fragments) {

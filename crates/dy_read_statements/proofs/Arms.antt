@@ -1,8 +1,7 @@
 -- The arms of a `case` or a `select` are read from the last one on.
-use Rattle.std.proofs.Common.{◌≡◌, ◌==◌, ◌≤◌, ◌+◌, Bool, true, false, ℕ, max, List, [], ◌∷◌, ◌++◌, length, reverse, map, Option, Some, None, option_map, option_and_then, refl, sym, ap, ◌∙◌, arith}
-use Rattle.std.proofs.Math.Nat.{le-max_left, le-max_right, le_antisymm}
+use Rattle.std.proofs.Common.{◌≡◌, ◌==◌, ◌+◌, Bool, true, false, ℕ, max, List, [], ◌∷◌, ◌++◌, length, map, Option, Some, None, option_map, option_and_then, refl, sym, ap, ◌∙◌, arith}
 use Rattle.std.proofs.lemmas.Bool.{eqb-true}
-use Rattle.std.proofs.lemmas.List.{map-append, reverse-append}
+use Rattle.std.proofs.lemmas.List.{map-append}
 use Rattle.std.specs.Global.{Vec, Box}
 use Rattle.dy_tree.specs.declared.expression.Arm.{Arm}
 use Rattle.dy_tree.specs.declared.expression.Expression.{Expression}
@@ -13,10 +12,10 @@ use Rattle.dy_tree.specs.Fragments.{seen_fragments}
 use Rattle.dy_tree.specs.declared.splitters.Splitting.TheVariants as splittings
 use Rattle.dy_rules.specs.Bodies.{item_items}
 use Rattle.dy_rules.specs.Choices as choices
-use Rattle.dy_rules.specs.Choices.{PieceKind, item_piece, arm_piece, otherwise_piece, no_piece, kind_of, Choices, choices_of, no_choices, with_lead, body_with, tests_items, arm_of, arm_if, arm_with, last_of, last_with, choice_at, choices_pieces, finished_lead, finished_choices, some_arms_items, arms_items, head_alone, head_by, head_with, head_items, head_pieces}
+use Rattle.dy_rules.specs.Choices.{PieceKind, item_piece, arm_piece, otherwise_piece, no_piece, kind_of, Choices, choices_of, no_choices, with_lead, body_with, tests_items, arm_if, arm_with, last_of, last_with, choice_at, choices_pieces, finished_lead, finished_choices, some_arms_items, arms_items, head_alone, head_by, head_with, head_items, head_pieces}
 use Rattle.dy_rules.specs.Cutting as cutting
 use Rattle.dy_rules.specs.Cutting.{Head, Front, Piece, Pieces, is_semicolon, is_splitter, cut, without_end}
-use Rattle.dy_rules.specs.Depth.{depth, item_depth, body_depth, tests_depth, arms_depth, otherwise_depth}
+use Rattle.dy_rules.specs.Depth.{depth, tests_depth}
 use Rattle.dy_rules.specs.Fragments.{items_of}
 use Rattle.dy_rules.specs.Productions.{suits}
 use Rattle.dy_rules.specs.Reading.{expression_items}
@@ -24,7 +23,6 @@ use Rattle.dy_rules.specs.SeenForms.{seen_item, seen_tree}
 use Rattle.dy_rules.specs.StatementReading.{case_of, select_of, select_with}
 use Rattle.dy_rules.specs.Trees as trees
 use Rattle.dy_rules.specs.Trees.{Tree, ItemTree, Otherwise, no_otherwise, otherwise, arm, arms_of, body_of, tests_of, maybe_of, case_tree, select_tree}
-use Rattle.dy_rules.proofs.Lists.{some_one}
 use Rattle.dy_rules_depth.specs.Changes.{changed_body, changed_arm, changed_arms, changed_maybe, changed_otherwise, changed_tests}
 use Rattle.dy_rules_depth.specs.Capping.{capped, capping, filled, filling}
 use Rattle.dy_rules_depth.specs.ReaderChanges.{changed_choices, changed_head}
@@ -37,82 +35,13 @@ use Rattle.dy_read_parts.specs.Cut.{seen_piece}
 use Rattle.dy_read_statements.specs.FilledInside.{filled_inside}
 use Rattle.dy_read_statements.specs.Heads.{SeenHead, head_behind, head_cut, head_read}
 use Rattle.dy_rules.specs.Held.{held_arm, held_arms, held_body, held_last, held_test}
-use Rattle.dy_read_statements.specs.ReadArms.{read_tests, read_arm, read_boxed, first_depth, FirstDepth, TestsDepth, ArmDepth, capped_first, choices_depth, choices_behind, choices_in, body_without, body_before, arm_read, capped_trees, capped_choice, capped_piece, choices_on, capped_pieces, capped_case, capped_select}
-use Rattle.dy_read_statements.specs.ReadBranches.{read_last}
-use Rattle.dy_read_statements.specs.ReadBodies.{read_item, read_items, read_list}
-use Rattle.dy_read_statements.specs.ReadItems.{capped_item, capped_items}
+use Rattle.dy_read_arms.specs.ReadArms.{read_tests, read_arm, read_boxed, FirstDepth, TestsDepth, ArmDepth, capped_first, choices_behind, choices_in, body_before, arm_read, capped_trees, capped_choice, capped_piece, choices_on, capped_pieces, capped_case, capped_select}
+use Rattle.dy_read_arms.specs.ReadItems.{capped_item, capped_items}
 use Rattle.dy_read_statements.specs.ReadStatements.{both}
-use Rattle.dy_read_operators.specs.ReadTrees.{read_tree}
+use Rattle.dy_read_outers.specs.ReadTrees.{read_tree}
 use Rattle.dy_read_parts.specs.declared.pieces.Piece.{Piece as FoundPiece}
 use Rattle.dy_read_statements.proofs.Branches.{last_filled, otherwise_twice}
-use Rattle.dy_read_statements.proofs.Maxima.{max_zero}
 use Rattle.dy_read_statements.proofs.Statements.{trees_twice}
-
--- what is put in front
-
-pub lead_more : (lead : List Item) (item : Item) → read_list (reverse (lead ++ item ∷ [])) ≡ read_item item ∷ read_list (reverse lead)
-lead_more lead item = ap read_list (reverse-append lead (item ∷ []))
-
-pub arms_more : (arms : List Arm) (form : Arm) → map read_arm (reverse (arms ++ form ∷ [])) ≡ read_arm form ∷ map read_arm (reverse arms)
-arms_more arms form = ap (map read_arm) (reverse-append arms (form ∷ []))
-
-pub lead_put : (lead : List Item) (arms : List Arm) (last : Option (Vec Item)) (item : Item) → choices_behind (lead ++ item ∷ []) arms last ≡ with_lead (choices_behind lead arms last) (read_item item)
-lead_put lead arms last item = ap (λ (list : List ItemTree). choices_of list (map read_arm (reverse arms)) (read_last last)) (lead_more lead item)
-
-pub lead_deep : (lead : List Item) (arms : List Arm) (last : Option (Vec Item)) (item : Item) (d n m : ℕ) → d ≡ choices_depth (choices_behind lead arms last) → n ≡ item_depth (read_item item) → m ≡ max d n → m ≡ choices_depth (choices_behind (lead ++ item ∷ []) arms last)
-lead_deep lead arms last item d n m e f g = let deep = ap choices_depth (lead_put lead arms last item) in omega arith
-
-without_deep : (lead body : List ItemTree) → Some body ≡ body_without lead → body_depth (body_of body) ≡ body_depth (body_of lead)
-without_deep [] body e = rw (some_one body [] e) refl
-without_deep (tree ∷ lead) body e = absurd cc
-
-pub before_deep : (first : Option ItemTree) (lead body : List ItemTree) → Some body ≡ body_before lead first → body_depth (body_of body) ≡ max (first_depth first) (body_depth (body_of lead))
-before_deep None lead body e = let same = without_deep lead body e in omega arith
-before_deep (Some tree) lead body e = rw (some_one body (tree ∷ lead) e) refl
-
-pub arm_put : (arms : List Arm) (last : Option (Vec Item)) (form : Arm) → choices_behind [] (arms ++ form ∷ []) last ≡ arm_of (read_tests form.tests) (map read_arm (reverse arms)) (read_last last) (read_items form.body)
-arm_put arms last form = ap (λ (list : List trees.Arm). choices_of [] list (read_last last)) (arms_more arms form)
-
--- The deepest of several, put together in another order.
-
-via : (x y z : ℕ) → x ≤ y → y ≤ z → x ≤ z
-via x y z h g = omega arith
-
-five_within : (l a o t f n : ℕ) → l ≤ n → a ≤ n → o ≤ n → t ≤ n → f ≤ n → max (max l (max a o)) (max t f) ≤ n
-five_within l a o t f n hl ha ho ht hf = omega arith
-
-four_within : (t b a o n : ℕ) → t ≤ n → b ≤ n → a ≤ n → o ≤ n → max (max (max t b) a) o ≤ n
-four_within t b a o n ht hb ha ho = omega arith
-
-both_within : (f l n : ℕ) → f ≤ n → l ≤ n → max f l ≤ n
-both_within f l n hf hl = omega arith
-
-arms_max : (l a o t f : ℕ) → max (max l (max a o)) (max t f) ≡ max (max (max t (max f l)) a) o
-arms_max l a o t f =
-    let b = max f l in
-    let before = max l (max a o) in
-    let put = max t f in
-    let m = max before put in
-    let n = max (max (max t b) a) o in
-    let in_arm : max t b ≤ n = via _ _ _ (le-max_left (max t b) a) (le-max_left (max (max t b) a) o) in
-    let in_body : b ≤ n = via _ _ _ (le-max_right t b) in_arm in
-    let in_before : before ≤ m = le-max_left before put in
-    let in_put : put ≤ m = le-max_right before put in
-    let in_rest : max a o ≤ m = via _ _ _ (le-max_right l (max a o)) in_before in
-    le_antisymm
-    (five_within l a o t f n (via _ _ _ (le-max_right f l) in_body) (via _ _ _ (le-max_right (max t b) a) (le-max_left (max (max t b) a) o)) (le-max_right (max (max t b) a) o) (via _ _ _ (le-max_left t b) in_arm) (via _ _ _ (le-max_left f l) in_body))
-    (four_within t b a o m (via _ _ _ (le-max_left t f) in_put) (both_within f l m (via _ _ _ (le-max_right t f) in_put) (via _ _ _ (le-max_left l (max a o)) in_before)) (via _ _ _ (le-max_left a o) in_rest) (via _ _ _ (le-max_right a o) in_rest))
-
-pub arm_deep : (lead : List Item) (arms : List Arm) (last : Option (Vec Item)) (form : Arm) (first : Option ItemTree) (d n m : ℕ) → Some (read_items form.body) ≡ body_before (read_list (reverse lead)) first → d ≡ choices_depth (choices_behind lead arms last)
-    → n ≡ max (tests_depth (tests_of (read_tests form.tests))) (first_depth first) → m ≡ max d n → m ≡ choices_depth (choices_behind [] (arms ++ form ∷ []) last)
-arm_deep lead arms last form first d n m e f g h =
-    let body = before_deep first (read_list (reverse lead)) (read_items form.body) e in
-    let tests = tests_depth (tests_of (read_tests form.tests)) in
-    let old = arms_depth (arms_of (map read_arm (reverse arms))) in
-    let end = otherwise_depth (read_last last) in
-    h ∙ ap (λ (x : ℕ). max x n) f ∙ ap (max (choices_depth (choices_behind lead arms last))) g
-    ∙ arms_max (body_depth (body_of (read_list (reverse lead)))) old end tests (first_depth first)
-    ∙ ap (λ (x : ℕ). max (max (max tests x) old) end) (sym body) ∙ max_zero (max (max (max tests (body_depth (body_of (read_items form.body)))) old) end) ∙ sym (ap choices_depth (arm_put arms last form))
 
 pub tests_more : (list : List Tree) (next : Tree) → tests_depth (tests_of (list ++ next ∷ [])) ≡ max (tests_depth (tests_of list)) (depth next)
 tests_more [] next = omega arith
@@ -193,9 +122,6 @@ on_none single (piece ∷ pieces) = ap (option_and_then (capped_piece single pie
 pub one_less : (single : Bool) (rest before : List FoundPiece) (piece : FoundPiece) (found : Option Choices) → rest ≡ before ++ piece ∷ []
     → choices_on single (map seen_piece rest) found ≡ choices_on single (map seen_piece before) (option_and_then (capped_piece single (items_of (seen_fragments piece.fragments.now))) found)
 one_less single rest before piece found e = ap (λ (list : List FoundPiece). choices_on single (map seen_piece list) found) e ∙ ap (λ (list : List Piece). choices_on single list found) (map-append seen_piece before (piece ∷ [])) ∙ on_end single (map seen_piece before) (seen_piece piece) found
-
-pub arm_reads : (single : Bool) (rest : Choices) {tests other : Option (List Tree)} {first second : Option (Option ItemTree)} → tests ≡ other → first ≡ second → arm_read single rest tests first ≡ arm_read single rest other second
-arm_reads single rest e f = cc (e, f)
 
 pub arm_depths : (m n : ℕ) (tests : Option (Vec Expression)) (first : Option (Option Item)) → TestsDepth 0 m tests → FirstDepth m n first → ArmDepth n tests first
 arm_depths m n None first e f = tt

@@ -20,9 +20,9 @@ use Rattle.dy_rules_depth.proofs.BlocksSame.{block_suits_same}
 use Rattle.dy_rules_depth.proofs.Options.{map_twice}
 use Rattle.dy_rules_depth.proofs.Rows.{row_body, row_clauses}
 use Rattle.dy_rules_depth.proofs.Twice.{type_twice, body_twice, item_twice}
-use Rattle.dy_read_statements.specs.BodyDepths.{BodyDepth, ClauseDepth}
+use Rattle.dy_read_arms.specs.BodyDepths.{BodyDepth, ClauseDepth}
 use Rattle.dy_read_statements.specs.CaughtShapes.{block_read, clause_read, read_caught, CaughtDepth}
-use Rattle.dy_read_statements.specs.ReadBodies.{read_clause, read_items}
+use Rattle.dy_read_arms.specs.ReadBodies.{read_clause, read_items}
 use Rattle.dy_read_types.specs.TypeCaps.{read_type}
 use Rattle.dy_read_types.specs.TypeFronts.{TypeDepth}
 use Rattle.dy_read_statements.specs.declared.caught.Caught.{Caught as CaughtForm}

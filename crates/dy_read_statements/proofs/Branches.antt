@@ -28,10 +28,10 @@ use Rattle.dy_rules_depth.proofs.Twice.{tree_twice, body_twice}
 use Rattle.dy_read_statements.specs.Branches.{branch_of, capped_other, capped_others}
 use Rattle.dy_read_statements.specs.FilledInside.{filled_inside}
 use Rattle.dy_rules.specs.Held.{held_alternative, held_last}
-use Rattle.dy_read_statements.specs.ReadBranches.{read_alternative, read_last, others_of, alternative_of, alternative_behind, alternative_items, capped_alternative, others_before, others_behind, others_with, LastDepth, capped_if}
-use Rattle.dy_read_statements.specs.ReadBodies.{read_list}
-use Rattle.dy_read_statements.specs.ReadItems.{capped_items}
-use Rattle.dy_read_statements.specs.BodyDepths.{BodyDepth}
+use Rattle.dy_read_statements.specs.ReadBranches.{read_alternative, others_of, alternative_of, alternative_behind, alternative_items, capped_alternative, others_before, others_behind, others_with, LastDepth, capped_if}
+use Rattle.dy_read_arms.specs.ReadBodies.{read_last, read_list}
+use Rattle.dy_read_arms.specs.ReadItems.{capped_items}
+use Rattle.dy_read_arms.specs.BodyDepths.{BodyDepth}
 use Rattle.dy_read_statements.specs.ReadStatements.{both, all_three}
 use Rattle.dy_read_statements.specs.declared.branch.Branch.{Branch}
 use Rattle.dy_read_statements.specs.declared.branch.Branch.TheVariants as branch

@@ -1,10 +1,8 @@
-pub mod ArmParts
 pub mod Arms
 pub mod Blocks
 pub mod Branches
 pub mod LoopHeads
 pub mod Loops
-pub mod Maxima
 pub mod StatementNodes
 pub mod Statements
 pub mod TestedParts

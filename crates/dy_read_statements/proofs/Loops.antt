@@ -19,15 +19,15 @@ use Rattle.dy_rules_depth.proofs.LoopsSame.{for_of_same}
 use Rattle.dy_rules_depth.proofs.Options.{map_twice}
 use Rattle.dy_rules_depth.proofs.Rows.{row_body, row_for_clauses}
 use Rattle.dy_rules_depth.proofs.Twice.{loop_twice, item_twice, body_twice}
-use Rattle.dy_read_statements.specs.BodyDepths.{BodyDepth}
+use Rattle.dy_read_arms.specs.BodyDepths.{BodyDepth}
 use Rattle.dy_read_statements.specs.FilledInside.{filled_inside}
 use Rattle.dy_rules.specs.Held.{held_clauses, held_body, held_last}
 use Rattle.dy_read_statements.specs.LoopHeads.{read_head, head_depth, HeadDepth}
 use Rattle.dy_read_statements.specs.Loops.{read_last, seen_stop, LoopDepth, LastDepth, loop_made, loop_at}
-use Rattle.dy_read_statements.specs.ReadBodies.{read_items}
+use Rattle.dy_read_arms.specs.ReadBodies.{read_items}
 use Rattle.dy_read_statements.specs.ReadLoops.{read_for, read_fors, read_stop}
 use Rattle.dy_read_statements.specs.declared.loop_head.ForHead.{ForHead}
-use Rattle.dy_read_statements.proofs.Maxima.{max_assoc, max_zero}
+use Rattle.dy_read_arms.proofs.Maxima.{max_assoc, max_zero}
 use Rattle.dy_read_statements.specs.declared.loop_nodes.Finally.{Finally}
 
 otherwise_twice : (last : Otherwise) → changed_otherwise capping (changed_otherwise capping last) ≡ changed_otherwise capping last

@@ -7,7 +7,7 @@ use Rattle.dy_rules.specs.SeenForms.{seen_statement}
 use Rattle.dy_rules_depth.specs.Capping.{deep_tree, capped, filled}
 use Rattle.dy_rules_depth.proofs.FilledNodes.{filled_begin, filled_if, filled_guarded, filled_case, filled_select, filled_block, filled_for, filled_method}
 use Rattle.dy_read_statements.specs.FilledInside.{filled_inside}
-use Rattle.dy_read_operators.proofs.Fills.{Made, node_made, node_beyond}
+use Rattle.dy_read_outers.proofs.Fills.{Made, node_made, node_beyond}
 
 inside_kept : (tree : Tree) → depth (filled_inside tree) ≤ depth_limit → filled_inside tree ≡ tree
 inside_kept (begin_tree word body) le = filled_begin word body le

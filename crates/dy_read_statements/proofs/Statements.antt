@@ -1,6 +1,5 @@
 -- Statements that are put together from parts that were read.
-use Rattle.std.proofs.Common.{◌≡◌, List, map, Option, Some, None, Result, IfOk, option_map, option_and_then, refl, ap, ◌∙◌}
-use Rattle.std.proofs.lemmas.Result.{IfOk-weaker}
+use Rattle.std.proofs.Common.{◌≡◌, List, map, Option, Some, None, option_map, option_and_then, refl, ap, ◌∙◌}
 use Rattle.dy_tree.specs.declared.expression.Item.{Item}
 use Rattle.dy_tree.specs.declared.token.Token.{Token}
 use Rattle.dy_tree.specs.declared.brackets.Guard.{Guard}
@@ -19,8 +18,8 @@ use Rattle.dy_rules_depth.proofs.SameNodes.{same_method}
 use Rattle.dy_rules_depth.proofs.StatementsSame.{begin_of_same, guarded_of_same}
 use Rattle.dy_rules_depth.proofs.Twice.{tree_twice, item_twice, parameters_twice}
 use Rattle.dy_read_statements.specs.FilledInside.{filled_inside}
-use Rattle.dy_read_statements.specs.ReadBodies.{read_list}
-use Rattle.dy_read_statements.specs.ReadItems.{capped_items}
+use Rattle.dy_read_arms.specs.ReadBodies.{read_list}
+use Rattle.dy_read_arms.specs.ReadItems.{capped_items}
 use Rattle.dy_read_statements.specs.ReadMethods.{capped_parts, parts_of}
 use Rattle.dy_read_statements.specs.ReadStatements.{both, capped_begin, capped_guarded, method_of, capped_method_tree}
 
@@ -35,10 +34,6 @@ guarded_filled tree guard word copy boxed test items e is same = ap filled_insid
 pub method_filled : (tree : Tree) (word copy : Token) (boxed signature : Parameters) (items : List Item) → tree ≡ method_tree copy boxed (body_of (map seen_item items)) → copy ≡ word → boxed ≡ signature
     → filled_inside tree ≡ method_of word (record { signature = changed_parameters filling signature; trees = read_list items })
 method_filled tree word copy boxed signature items e is same = ap filled_inside e ∙ ap (method_tree copy (changed_parameters filling boxed)) (row_body filling (map seen_item items)) ∙ cc (is, same)
-
--- what was read is the same as something else
-pub read_as : {A B E : Type 0} (see : A → B) (result : Result A E) (old new : B) → old ≡ new → IfOk result (λ found. see found ≡ old) → IfOk result (λ found. see found ≡ new)
-read_as see result old new e h = IfOk-weaker result _ (λ found. see found ≡ new) (λ found f. f ∙ e) h
 
 pub both_are : {A B C : Type 0} (make : A → B → C) {first other : Option A} {second rest : Option B} → first ≡ other → second ≡ rest → both make first second ≡ both make other rest
 both_are make e f = cc (e, f)

@@ -1,5 +1,6 @@
 -- How the condition of an `exception` clause is divided, and the clauses that were read.
-use Rattle.std.specs.Prelude.{◌≡◌, ◌≤◌, ⊤, ℕ, max, List, Option, Some, None, option_map, option_and_then}
+use Rattle.std.specs.Prelude.{◌≡◌, ◌≤◌, ⊤, ℕ, max, List, Option, Some, None, option_map}
+use Rattle.std.specs.Prelude.{option_and_then}
 use Rattle.std.specs.Borrow.{Bor}
 use Rattle.dy_tree.specs.declared.token.Token.{Token}
 use Rattle.dy_tree.specs.Fragments.{seen_fragments}
@@ -21,7 +22,9 @@ variable_of (Some token) = Some token.now
 -- what stands for a condition that is divided so
 abbrev pub caught_read : Option CaughtShape → Option Caught
 caught_read None = None
-caught_read (Some shape) = option_map (caught_of (variable_of shape.variable)) (type_items (items_of (seen_fragments shape.condition.now)))
+caught_read (Some shape) =
+    option_map (caught_of (variable_of shape.variable))
+    (type_items (items_of (seen_fragments shape.condition.now)))
 
 abbrev pub IsCaughtWithin : ℕ → Option CaughtShape → Type 0
 IsCaughtWithin n None = ⊤
@@ -42,8 +45,10 @@ abbrev pub clause_read : Option Caught → Option (List ItemTree) → Option Blo
 clause_read caught trees = option_and_then (clause_to trees) caught
 
 -- a block of its parts
-abbrev pub block_to : Token → Option (List ItemTree) → Option (List BlockClause) → Option Token → Option Tree
+abbrev pub block_to : Token → Option (List ItemTree) → Option (List BlockClause) → Option Token
+    → Option Tree
 block_to word trees clauses exit = option_and_then (block_body word exit clauses) trees
 
-abbrev pub block_read : Token → Option (Option Token) → Option (List ItemTree) → Option (List BlockClause) → Option Tree
+abbrev pub block_read : Token → Option (Option Token) → Option (List ItemTree)
+    → Option (List BlockClause) → Option Tree
 block_read word exit trees clauses = option_and_then (block_to word trees clauses) exit

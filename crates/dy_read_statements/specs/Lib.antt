@@ -1,15 +1,10 @@
-pub mod Arms
-pub mod BodyDepths
 pub mod Branches
 pub mod CaughtShapes
 pub mod FilledInside
 pub mod Heads
 pub mod LoopHeads
 pub mod Loops
-pub mod ReadArms
-pub mod ReadBodies
 pub mod ReadBranches
-pub mod ReadItems
 pub mod ReadLoops
 pub mod ReadMethods
 pub mod ReadStatements

@@ -20,13 +20,17 @@ use Rattle.dy_read_statements.specs.declared.loop_head.LastShape.{LastShape}
 use Rattle.dy_read_statements.specs.declared.loop_head.LastShape.TheVariants as lasts
 
 abbrev pub read_head : ForHead → Ending ForClause StopTree
-read_head head = record { parts = read_fors head.clauses.items; last = option_map read_stop head.stop }
+read_head head = record {
+  parts = read_fors head.clauses.items;
+  last = option_map read_stop head.stop;
+}
 
 abbrev pub fors_depth : List FormClause → ℕ
 fors_depth clauses = for_clauses_depth (for_clauses_of (read_fors clauses))
 
 abbrev pub head_depth : Ending ForClause StopTree → ℕ
-head_depth head = max (for_clauses_depth (for_clauses_of head.parts)) (stop_depth (stop_of head.last))
+head_depth head = max (for_clauses_depth (for_clauses_of head.parts))
+    (stop_depth (stop_of head.last))
 
 -- how deep it is with what was read before
 abbrev pub HeadDepth : ℕ → ℕ → Option ForHead → Type 0
@@ -35,16 +39,20 @@ HeadDepth old new (Some head) = new ≡ max old (head_depth (read_head head))
 
 -- the clauses and the test that fragments stand for, to the limit
 abbrev pub capped_parts : List SeenFragment → Option (Ending ForClause StopTree)
-capped_parts fragments = changed_parts (changed_for capping) (changed_stop_tree capping) is_comma_fragment is_stop clause_items stop_items fragments
+capped_parts fragments = changed_parts (changed_for capping)
+    (changed_stop_tree capping) is_comma_fragment is_stop clause_items stop_items fragments
 
 abbrev pub capped_last : List SeenFragment → Option (Ending ForClause StopTree)
-capped_last fragments = option_map (changed_ending (changed_for capping) (changed_stop_tree capping)) (last_part is_stop clause_items stop_items fragments)
+capped_last fragments = option_map
+    (changed_ending (changed_for capping) (changed_stop_tree capping))
+    (last_part is_stop clause_items stop_items fragments)
 
 abbrev pub capped_clause : List SeenFragment → Option ForClause
 capped_clause fragments = option_map (changed_for capping) (clause_items (items_of fragments))
 
 abbrev pub last_read : LastShape → Option ForClause → Option (Ending ForClause StopTree)
-last_read (lasts.Stop keyword test) clause = option_map only_last (option_map (stop_with keyword.now) (step_tree (seen_fragments test.now)))
+last_read (lasts.Stop keyword test) clause =
+    option_map only_last (option_map (stop_with keyword.now) (step_tree (seen_fragments test.now)))
 last_read lasts.Clause clause = option_map only_part clause
 
 -- the test is nested at most so deep

@@ -1,5 +1,6 @@
 -- The alternatives of an `if`, as they are read.
-use Rattle.std.specs.Prelude.{◌≡◌, ⊤, ℕ, max, List, [], ◌∷◌, ◌++◌, map, Option, Some, None, option_map, option_and_then}
+use Rattle.std.specs.Prelude.{◌≡◌, ⊤, ℕ, max, List, [], ◌∷◌, ◌++◌, map, Option, Some, None}
+use Rattle.std.specs.Prelude.{option_map, option_and_then}
 use Rattle.std.specs.Global.{Vec}
 use Rattle.dy_tree.specs.declared.expression.Alternative.{Alternative}
 use Rattle.dy_tree.specs.declared.expression.Item.{Item}
@@ -10,19 +11,15 @@ use Rattle.dy_rules.specs.Cutting as cutting
 use Rattle.dy_rules.specs.Depth.{body_depth, alternative_depth, alternatives_depth, otherwise_depth}
 use Rattle.dy_rules.specs.StatementReading.{Tested, tested, Others, if_of}
 use Rattle.dy_rules.specs.Trees as trees
-use Rattle.dy_rules.specs.Trees.{Tree, ItemTree, body_of, alternative, alternatives_of, no_otherwise, otherwise}
+use Rattle.dy_rules.specs.Trees.{Tree, ItemTree, body_of, alternative, alternatives_of}
+use Rattle.dy_rules.specs.Trees.{otherwise}
 use Rattle.dy_rules_depth.specs.Changes.{changed_alternative}
 use Rattle.dy_rules_depth.specs.Capping.{capped, capping}
-use Rattle.dy_read_statements.specs.ReadBodies.{read_items}
-use Rattle.dy_read_operators.specs.ReadTrees.{read_tree}
+use Rattle.dy_read_arms.specs.ReadBodies.{read_items, read_last}
+use Rattle.dy_read_outers.specs.ReadTrees.{read_tree}
 
 abbrev pub read_alternative : Alternative → trees.Alternative
 read_alternative form = alternative (read_tree form.test) (body_of (read_items form.body))
-
--- a body that stands behind everything else, where there is one
-abbrev pub read_last : Option (Vec Item) → trees.Otherwise
-read_last None = no_otherwise
-read_last (Some body) = otherwise (body_of (read_items body))
 
 -- how deep it is with what was read before
 abbrev pub AlternativeDepth : ℕ → ℕ → Option Alternative → Type 0
@@ -30,22 +27,27 @@ AlternativeDepth old new None = ⊤
 AlternativeDepth old new (Some form) = new ≡ max old (alternative_depth (read_alternative form))
 
 abbrev pub others_of : List Alternative → Option (Vec Item) → Others
-others_of alternatives last = record { trees = map read_alternative alternatives; last = read_last last }
+others_of alternatives last =
+    record { trees = map read_alternative alternatives; last = read_last last }
 
 abbrev pub others_depth : Others → ℕ
-others_depth others = max (alternatives_depth (alternatives_of others.trees)) (otherwise_depth others.last)
+others_depth others = max (alternatives_depth (alternatives_of others.trees))
+    (otherwise_depth others.last)
 
 -- the last body, behind alternatives that are so deep
 abbrev pub LastDepth : ℕ → List Alternative → Option (Vec Item) → Type 0
 LastDepth n alternatives None = ⊤
-LastDepth n alternatives (Some body) = n ≡ max (alternatives_depth (alternatives_of (map read_alternative alternatives))) (body_depth (body_of (read_items body)))
+LastDepth n alternatives (Some body) =
+    n ≡ max (alternatives_depth (alternatives_of (map read_alternative alternatives)))
+    (body_depth (body_of (read_items body)))
 
 -- what stands behind an `elseif`
 abbrev pub alternative_of : Tree → List ItemTree → trees.Alternative
 alternative_of test trees = alternative test (body_of trees)
 
 abbrev pub alternative_behind : Tested → Option trees.Alternative
-alternative_behind head = option_map (alternative_of head.test) (body_items splittings.Branches head.rest)
+alternative_behind head =
+    option_map (alternative_of head.test) (body_items splittings.Branches head.rest)
 
 abbrev pub alternative_items : List cutting.Item → Option trees.Alternative
 alternative_items items = option_and_then alternative_behind (tested items)

@@ -8,9 +8,9 @@ use Rattle.dy_rules.specs.SeenForms.{seen_for_clause}
 use Rattle.dy_rules.specs.Trees as trees
 use Rattle.dy_rules_depth.specs.Changes.{changed_for}
 use Rattle.dy_rules_depth.specs.Capping.{filling}
-use Rattle.dy_read_operators.specs.Grown.{read_grown}
-use Rattle.dy_read_operators.specs.ReadTrees.{read_tree}
-use Rattle.dy_read_operators.specs.declared.grown.Grown.{Grown}
+use Rattle.dy_read_outers.specs.Grown.{read_grown}
+use Rattle.dy_read_outers.specs.ReadTrees.{read_tree}
+use Rattle.dy_read_outers.specs.declared.grown.Grown.{Grown}
 use Rattle.dy_read_statements.specs.declared.clause_nodes.Bounded.{Bounded}
 use Rattle.dy_read_statements.specs.declared.clause_nodes.Range.{Range as RangeRead}
 

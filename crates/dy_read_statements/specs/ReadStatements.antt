@@ -15,7 +15,9 @@ use Rattle.dy_read_parts.specs.declared.front.Front.{Front}
 -- brackets with an expression inside, and what stands behind them
 abbrev pub front_tested : Option Front → Option Tested
 front_tested None = None
-front_tested (Some front) = option_map (tested_by (items_of (seen_fragments front.rest.now))) (expression_items splittings.Nothing (items_of (seen_fragments front.inner.now)))
+front_tested (Some front) =
+    option_map (tested_by (items_of (seen_fragments front.rest.now)))
+    (expression_items splittings.Nothing (items_of (seen_fragments front.inner.now)))
 
 -- what is made of two parts, where both are there
 abbrev pub both : {A B C : Type 0} → (A → B → C) → Option A → Option B → Option C
@@ -23,7 +25,8 @@ both make None second = None
 both make (Some first) None = None
 both make (Some first) (Some second) = Some (make first second)
 
-abbrev pub all_three : {A B C D : Type 0} → (A → B → C → D) → Option A → Option B → Option C → Option D
+abbrev pub all_three : {A B C D : Type 0} → (A → B → C → D) → Option A → Option B → Option C
+    → Option D
 all_three make None second third = None
 all_three make (Some first) None third = None
 all_three make (Some first) (Some second) None = None

@@ -3,21 +3,23 @@
 ghost use Rattle.std.specs.Prelude.{◌≡◌, max, IfOk, option_map};
 ghost use Rattle.dy_rules.specs.Depth as measure;
 ghost use Rattle.dy_rules.specs.Trees.{maybe_of};
-ghost use Rattle.dy_read_statements.specs.Arms.{read_choices, read_head};
-ghost use Rattle.dy_read_operators.specs.Grown.{read_grown};
-ghost use Rattle.dy_read_statements.specs.ReadArms as spec;
+ghost use Rattle.dy_read_arms.specs.Arms.{read_choices};
+ghost use Rattle.dy_read_statements.specs.Heads.{read_head};
+ghost use Rattle.dy_read_outers.specs.Grown.{read_grown};
+ghost use Rattle.dy_read_arms.specs.ReadArms as spec;
 ghost use Rattle.dy_read_statements.specs.ReadStatements.{both};
 
-use crate::choices::Choices;
 use crate::head::Head;
 use crate::statement_nodes::{case_tree, select_tree, statement_within};
-use dy_read_operators::grown::Grown;
-use dy_read_types::depth::deepest;
+use dy_read_arms::choices::Choices;
+use dy_read_outers::grown::Grown;
+use dy_read_parts::depth::deepest;
 use dy_tree::{Expression, Token};
 use std::alloc::{AllocError, Global};
 
 fn case_within(alloc: Global, word: &Token, choices: Choices) -> Result<Grown, AllocError>
-    ensures { IfOk result (λ grown. read_grown grown ≡ spec.capped_case word.now (read_choices choices)) }
+    ensures { IfOk result (λ grown. read_grown grown
+        ≡ spec.capped_case word.now (read_choices choices)) }
 {
     let tree = case_tree(word.copy()?, choices.arms, choices.last);
     statement_within(alloc, word, tree, choices.depth)
@@ -29,7 +31,8 @@ pub fn case_with(
     word: &Token,
     choices: Option<Choices>,
 ) -> Result<Option<Grown>, AllocError>
-    ensures { IfOk result (λ found. option_map read_grown found ≡ option_map (spec.capped_case word.now) (option_map read_choices choices)) }
+    ensures { IfOk result (λ found. option_map read_grown found
+        ≡ option_map (spec.capped_case word.now) (option_map read_choices choices)) }
 {
     match choices {
         Some(choices) => Ok(Some(case_within(alloc, word, choices)?)),
@@ -39,7 +42,8 @@ pub fn case_with(
 
 fn boxed_test(test: Option<Grown>, inside: &mut usize) -> Option<Box<Expression>>
     ensures test { spec.read_boxed result ≡ option_map read_grown test }
-    ensures depth { inside.new ≡ max inside.old (measure.maybe_depth (maybe_of (option_map read_grown test))) }
+    ensures depth { inside.new
+        ≡ max inside.old (measure.maybe_depth (maybe_of (option_map read_grown test))) }
 {
     match test {
         Some(test) => {
@@ -56,7 +60,8 @@ fn select_within(
     head: Head,
     choices: Choices,
 ) -> Result<Grown, AllocError>
-    ensures { IfOk result (λ grown. read_grown grown ≡ spec.capped_select word.now (read_head head) (read_choices choices)) }
+    ensures { IfOk result (λ grown. read_grown grown
+        ≡ spec.capped_select word.now (read_head head) (read_choices choices)) }
 {
     let mut inside = deepest(head.selected.depth, choices.depth);
     let test = boxed_test(head.test, &mut inside);
@@ -77,7 +82,9 @@ pub fn select_with(
     head: Option<Head>,
     choices: Option<Choices>,
 ) -> Result<Option<Grown>, AllocError>
-    ensures { IfOk result (λ found. option_map read_grown found ≡ both (spec.capped_select word.now) (option_map read_head head) (option_map read_choices choices)) }
+    ensures { IfOk result (λ found. option_map read_grown found
+        ≡ both (spec.capped_select word.now) (option_map read_head head)
+        (option_map read_choices choices)) }
 {
     let Some(head) = head else {
         return Ok(None);

@@ -7,7 +7,8 @@ ghost use Rattle.dy_rules.specs.Fragments.{items_of};
 ghost use Rattle.dy_rules.specs.TypeReading.{type_items};
 ghost use Rattle.dy_rules_depth.specs.Capping.{capping};
 ghost use Rattle.dy_rules_depth.specs.ReaderChanges.{changed_caught};
-ghost use Rattle.dy_read_statements.specs.CaughtShapes.{caught_read, read_caught, variable_of, CaughtDepth, IsCaughtWithin};
+ghost use Rattle.dy_read_statements.specs.CaughtShapes.{caught_read, read_caught, variable_of};
+ghost use Rattle.dy_read_statements.specs.CaughtShapes.{CaughtDepth, IsCaughtWithin};
 ghost use Rattle.dy_read_parts.specs.Nesting.{nesting};
 ghost use Rattle.dy_read_types.specs.TypeCaps.{read_type};
 
@@ -33,7 +34,8 @@ pub struct Caught {
 
 /// A condition without a variable.
 fn plain_shape(condition: &[Fragment]) -> Option<CaughtShape<'_>>
-    ensures found { option_map (spec.caught_of None) (type_items (items_of (seen_fragments condition.now))) ≡ caught_read result }
+    ensures found { option_map (spec.caught_of None)
+        (type_items (items_of (seen_fragments condition.now))) ≡ caught_read result }
     ensures nested { IsCaughtWithin (nesting (seen_fragments condition.now)) result }
 {
     Some(CaughtShape {
@@ -45,7 +47,8 @@ fn plain_shape(condition: &[Fragment]) -> Option<CaughtShape<'_>>
 /// A condition behind a variable and its `::`.
 #[tactic(auto, using(crate::proofs::Blocks::caught_name))]
 fn named_shape<'a>(first: &'a Fragment, condition: &'a [Fragment]) -> Option<CaughtShape<'a>>
-    ensures found { spec.caught_with (seen_fragment first.now) (type_items (items_of (seen_fragments condition.now))) ≡ caught_read result }
+    ensures found { spec.caught_with (seen_fragment first.now)
+        (type_items (items_of (seen_fragments condition.now))) ≡ caught_read result }
     ensures nested { IsCaughtWithin (nesting (seen_fragments condition.now)) result }
 {
     match name_at(first) {
@@ -59,7 +62,8 @@ fn named_shape<'a>(first: &'a Fragment, condition: &'a [Fragment]) -> Option<Cau
 
 /// How the condition of a clause is divided.
 pub fn caught_shape(fragments: &[Fragment]) -> Option<CaughtShape<'_>>
-    ensures found { spec.caught_items (items_of (seen_fragments fragments.now)) ≡ caught_read result }
+    ensures found { spec.caught_items (items_of (seen_fragments fragments.now))
+        ≡ caught_read result }
     ensures nested { IsCaughtWithin (nesting (seen_fragments fragments.now)) result }
 {
     match fragments.split_first() {
@@ -87,7 +91,8 @@ fn variable_copy(variable: Option<&Token>) -> Result<Option<Token>, AllocError>
 }
 
 fn caught_with(variable: Option<Token>, condition: Option<TypeForm>) -> Option<Caught>
-    ensures { option_map read_caught result ≡ option_map (spec.caught_of variable) (option_map read_type condition) }
+    ensures { option_map read_caught result
+        ≡ option_map (spec.caught_of variable) (option_map read_type condition) }
 {
     match condition {
         Some(condition) => Some(Caught {
@@ -104,7 +109,10 @@ pub fn caught_items(
     fragments: &[Fragment],
     depth: &mut usize,
 ) -> Result<Option<Caught>, AllocError>
-    ensures found { IfOk result (λ found. option_map read_caught found ≡ option_map (changed_caught capping) (spec.caught_items (items_of (seen_fragments fragments.now)))) }
+    ensures found { IfOk result
+        (λ found. option_map read_caught found
+        ≡ option_map (changed_caught capping)
+        (spec.caught_items (items_of (seen_fragments fragments.now)))) }
     ensures depth { IfOk result (λ found. CaughtDepth depth.old depth.new found) }
 {
     match caught_shape(fragments) {

@@ -8,14 +8,15 @@ ghost use Rattle.dy_rules.specs.SeenTypes.{seen_variable};
 ghost use Rattle.dy_rules.specs.Trees as trees;
 ghost use Rattle.dy_rules_depth.specs.Changes.{changed_limit, changed_maybe};
 ghost use Rattle.dy_rules_depth.specs.Capping.{filling};
-ghost use Rattle.dy_read_operators.specs.Grown.{read_grown};
+ghost use Rattle.dy_read_outers.specs.Grown.{read_grown};
 ghost use Rattle.dy_rules.specs.Held.{held_limit};
 ghost use Rattle.dy_read_shapes.specs.LoopShapes.{next_with};
-ghost use Rattle.dy_read_statements.specs.ReadLoops.{read_bounded, read_step, read_range, read_for, ForDepth};
+ghost use Rattle.dy_read_statements.specs.ReadLoops.{read_bounded, read_step, read_range, read_for};
+ghost use Rattle.dy_read_statements.specs.ReadLoops.{ForDepth};
 ghost use Rattle.dy_read_types.specs.VariableFronts.{read_variable};
 
-use dy_read_operators::grown::Grown;
-use dy_read_types::depth::deepen;
+use dy_read_outers::grown::Grown;
+use dy_read_parts::depth::deepen;
 use dy_tree::{Expression, ForClause, Limit, Token, Variable};
 use std::alloc::AllocError;
 
@@ -62,7 +63,9 @@ pub fn limited(
     bound: Option<Grown>,
     rest: Option<Range>,
 ) -> Result<Option<Range>, AllocError>
-    ensures { IfOk result (λ found. option_map read_range found ≡ option_and_then (loops.limit_with word.now (option_map read_range rest)) (option_map read_grown bound)) }
+    ensures { IfOk result (λ found. option_map read_range found
+        ≡ option_and_then (loops.limit_with word.now (option_map read_range rest))
+        (option_map read_grown bound)) }
 {
     match bound {
         Some(bound) => match rest {
@@ -80,8 +83,11 @@ pub fn limited(
 }
 
 fn then_whole(variable: Variable, first: Grown, next: Grown, depth: &mut usize) -> ForClause
-    ensures found { read_for result ≡ loops.then_of (read_variable variable) (read_grown first) (read_grown next) }
-    ensures depth { (outer : ℕ) → depth.old ≡ max outer (measure.variable_depth (read_variable variable)) → depth.new ≡ max outer (measure.for_clause_depth (read_for result)) }
+    ensures found { read_for result
+        ≡ loops.then_of (read_variable variable) (read_grown first) (read_grown next) }
+    ensures depth { (outer : ℕ)
+        → depth.old ≡ max outer (measure.variable_depth (read_variable variable))
+        → depth.new ≡ max outer (measure.for_clause_depth (read_for result)) }
 {
     deepen(depth, first.depth);
     deepen(depth, next.depth);
@@ -99,8 +105,12 @@ pub fn then_clause(
     next: Option<Grown>,
     depth: &mut usize,
 ) -> Option<ForClause>
-    ensures found { option_map read_for result ≡ option_and_then (next_with (read_variable variable) (option_map read_grown next)) (option_map read_grown first) }
-    ensures depth { (outer : ℕ) → depth.old ≡ max outer (measure.variable_depth (read_variable variable)) → ForDepth outer depth.new result }
+    ensures found { option_map read_for result
+        ≡ option_and_then (next_with (read_variable variable) (option_map read_grown next))
+        (option_map read_grown first) }
+    ensures depth { (outer : ℕ)
+        → depth.old ≡ max outer (measure.variable_depth (read_variable variable))
+        → ForDepth outer depth.new result }
 {
     match first {
         Some(first) => match next {
@@ -117,8 +127,11 @@ pub fn in_clause(
     collection: Option<Grown>,
     depth: &mut usize,
 ) -> Option<ForClause>
-    ensures found { option_map read_for result ≡ option_map (loops.in_of (read_variable variable)) (option_map read_grown collection) }
-    ensures depth { (outer : ℕ) → depth.old ≡ max outer (measure.variable_depth (read_variable variable)) → ForDepth outer depth.new result }
+    ensures found { option_map read_for result
+        ≡ option_map (loops.in_of (read_variable variable)) (option_map read_grown collection) }
+    ensures depth { (outer : ℕ)
+        → depth.old ≡ max outer (measure.variable_depth (read_variable variable))
+        → ForDepth outer depth.new result }
 {
     match collection {
         Some(collection) => {
@@ -167,7 +180,9 @@ fn from_form(
     limit: Option<Limit>,
     step: Option<Expression>,
 ) -> ForClause
-    ensures { seen_for_clause result ≡ trees.from_clause (seen_variable variable) (seen_tree start) (held_limit limit) (seen_initial step) }
+    ensures { seen_for_clause result
+        ≡ trees.from_clause (seen_variable variable) (seen_tree start) (held_limit limit)
+        (seen_initial step) }
 {
     ForClause::From {
         variable,
@@ -178,8 +193,11 @@ fn from_form(
 }
 
 fn from_whole(variable: Variable, start: Grown, range: Range, depth: &mut usize) -> ForClause
-    ensures found { read_for result ≡ loops.from_of (read_variable variable) (read_grown start) (read_range range) }
-    ensures depth { (outer : ℕ) → depth.old ≡ max outer (measure.variable_depth (read_variable variable)) → depth.new ≡ max outer (measure.for_clause_depth (read_for result)) }
+    ensures found { read_for result
+        ≡ loops.from_of (read_variable variable) (read_grown start) (read_range range) }
+    ensures depth { (outer : ℕ)
+        → depth.old ≡ max outer (measure.variable_depth (read_variable variable))
+        → depth.new ≡ max outer (measure.for_clause_depth (read_for result)) }
 {
     deepen(depth, start.depth);
     let limit = limit_form(range.limit, depth);
@@ -194,8 +212,12 @@ pub fn from_clause(
     range: Option<Range>,
     depth: &mut usize,
 ) -> Option<ForClause>
-    ensures found { option_map read_for result ≡ option_and_then (loops.from_with (read_variable variable) (option_map read_range range)) (option_map read_grown start) }
-    ensures depth { (outer : ℕ) → depth.old ≡ max outer (measure.variable_depth (read_variable variable)) → ForDepth outer depth.new result }
+    ensures found { option_map read_for result
+        ≡ option_and_then (loops.from_with (read_variable variable) (option_map read_range range))
+        (option_map read_grown start) }
+    ensures depth { (outer : ℕ)
+        → depth.old ≡ max outer (measure.variable_depth (read_variable variable))
+        → ForDepth outer depth.new result }
 {
     match start {
         Some(start) => match range {

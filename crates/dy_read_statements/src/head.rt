@@ -6,13 +6,13 @@ ghost use Rattle.dy_tree.specs.declared.splitters.Splitting.TheVariants as split
 ghost use Rattle.dy_rules.specs.Choices as choices;
 ghost use Rattle.dy_rules.specs.Cutting.{cut, is_splitter};
 ghost use Rattle.dy_rules.specs.Fragments.{items_of};
-ghost use Rattle.dy_read_statements.specs.Arms.{read_head};
-ghost use Rattle.dy_read_operators.specs.Grown.{read_grown};
+ghost use Rattle.dy_read_statements.specs.Heads.{read_head};
+ghost use Rattle.dy_read_outers.specs.Grown.{read_grown};
 ghost use Rattle.dy_read_statements.specs.Heads.{head_cut, seen_head, IsHeadWithin};
 ghost use Rattle.dy_read_parts.specs.Nesting.{nesting};
 ghost use Rattle.dy_read_statements.specs.ReadStatements.{both};
 
-use dy_read_operators::grown::Grown;
+use dy_read_outers::grown::Grown;
 use dy_read_parts::cutting::split_piece;
 use dy_read_parts::separator::Separator;
 use dy_tree::{Fragment, Splitting};
@@ -40,7 +40,9 @@ pub enum HeadShape<'a> {
 
 /// What stands between the brackets of a `select`.
 pub fn head_shape(fragments: &[Fragment]) -> HeadShape<'_>
-    ensures head { seen_head result ≡ head_cut (cut (is_splitter splittings.Tests) false (items_of (seen_fragments fragments.now))) }
+    ensures head { seen_head result
+        ≡ head_cut (cut (is_splitter splittings.Tests) false
+        (items_of (seen_fragments fragments.now))) }
     ensures nested { IsHeadWithin (nesting (seen_fragments fragments.now)) result }
 {
     let (selected, others) = split_piece(Separator::Splitter(Splitting::Tests), false, fragments);
@@ -59,7 +61,8 @@ pub fn head_shape(fragments: &[Fragment]) -> HeadShape<'_>
 
 /// A value alone.
 pub fn alone(selected: Option<Grown>) -> Option<Head>
-    ensures { option_map read_head result ≡ option_map choices.head_alone (option_map read_grown selected) }
+    ensures { option_map read_head result
+        ≡ option_map choices.head_alone (option_map read_grown selected) }
 {
     match selected {
         Some(selected) => Some(Head {
@@ -72,7 +75,8 @@ pub fn alone(selected: Option<Grown>) -> Option<Head>
 
 /// A value with what it is compared by.
 pub fn by_test(selected: Option<Grown>, test: Option<Grown>) -> Option<Head>
-    ensures { option_map read_head result ≡ both choices.head_by (option_map read_grown selected) (option_map read_grown test) }
+    ensures { option_map read_head result
+        ≡ both choices.head_by (option_map read_grown selected) (option_map read_grown test) }
 {
     let Some(selected) = selected else {
         return None;

@@ -2,10 +2,8 @@
 #![tactic(auto)]
 
 pub mod arm_nodes;
-pub mod arm_parts;
 pub mod branch;
 pub mod caught;
-pub mod choices;
 pub mod clause_nodes;
 pub mod head;
 pub mod listed_read;
@@ -15,5 +13,4 @@ pub mod method_read;
 pub mod others;
 pub mod signature_front;
 pub mod statement_nodes;
-pub mod suits;
 pub mod tested;

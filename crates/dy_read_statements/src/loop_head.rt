@@ -5,13 +5,13 @@ ghost use Rattle.dy_tree.specs.Fragments.{seen_fragment, seen_fragments};
 ghost use Rattle.dy_rules.specs.Cutting as cutting;
 ghost use Rattle.dy_rules.specs.Loops as loops;
 ghost use Rattle.dy_read_types.specs.Endings.{parts_before};
-ghost use Rattle.dy_read_operators.specs.Grown.{read_grown};
+ghost use Rattle.dy_read_outers.specs.Grown.{read_grown};
 ghost use Rattle.dy_read_statements.specs.LoopHeads as spec;
 ghost use Rattle.dy_read_parts.specs.Nesting.{nesting};
 ghost use Rattle.dy_read_statements.specs.ReadLoops.{read_for, read_fors, ForDepth};
 
-use dy_read_operators::grown::Grown;
-use dy_read_types::depth::deepen;
+use dy_read_outers::grown::Grown;
+use dy_read_parts::depth::deepen;
 use dy_read_words::sign::is_stop_word;
 use dy_tree::{ForClause, Fragment, Stop, Token};
 use std::alloc::{AllocError, Global};
@@ -36,7 +36,9 @@ pub enum LastShape<'a> {
 
 #[tactic(auto, using(crate::proofs::LoopHeads::stop_capped, crate::proofs::LoopHeads::clause_capped))]
 fn shape_at<'a>(first: &'a Fragment, rest: &'a [Fragment]) -> LastShape<'a>
-    ensures read { spec.capped_last (seen_fragment first.now ∷ seen_fragments rest.now) ≡ spec.last_read result (spec.capped_clause (seen_fragment first.now ∷ seen_fragments rest.now)) }
+    ensures read { spec.capped_last (seen_fragment first.now ∷ seen_fragments rest.now)
+        ≡ spec.last_read result (spec.capped_clause
+        (seen_fragment first.now ∷ seen_fragments rest.now)) }
     ensures nested { spec.IsStopWithin (nesting (seen_fragments rest.now)) result }
 {
     match first {
@@ -51,7 +53,8 @@ fn shape_at<'a>(first: &'a Fragment, rest: &'a [Fragment]) -> LastShape<'a>
 /// How the last part of a head begins.
 #[tactic(auto, using(crate::proofs::LoopHeads::clause_capped))]
 pub fn last_shape(fragments: &[Fragment]) -> LastShape<'_>
-    ensures read { spec.capped_last (seen_fragments fragments.now) ≡ spec.last_read result (spec.capped_clause (seen_fragments fragments.now)) }
+    ensures read { spec.capped_last (seen_fragments fragments.now)
+        ≡ spec.last_read result (spec.capped_clause (seen_fragments fragments.now)) }
     ensures nested { spec.IsStopWithin (nesting (seen_fragments fragments.now)) result }
 {
     match fragments.split_first() {
@@ -77,8 +80,14 @@ pub fn with_stop(
     test: Option<Grown>,
     depth: &mut usize,
 ) -> Result<Option<ForHead>, AllocError>
-    ensures found { IfOk result (λ found. option_map spec.read_head found ≡ parts_before (read_fors clauses.items) (option_map cutting.only_last (option_map (loops.stop_with keyword.now) (option_map read_grown test)))) }
-    ensures depth { IfOk result (λ found. (outer : ℕ) → depth.old ≡ max outer (spec.fors_depth clauses.items) → spec.HeadDepth outer depth.new found) }
+    ensures found { IfOk result
+        (λ found. option_map spec.read_head found
+        ≡ parts_before (read_fors clauses.items)
+        (option_map cutting.only_last
+        (option_map (loops.stop_with keyword.now) (option_map read_grown test)))) }
+    ensures depth { IfOk result
+        (λ found. (outer : ℕ) → depth.old ≡ max outer (spec.fors_depth clauses.items)
+        → spec.HeadDepth outer depth.new found) }
 {
     match test {
         Some(test) => {
@@ -100,8 +109,13 @@ pub fn with_clause(
     clauses: Vec<ForClause>,
     clause: Option<ForClause>,
 ) -> Result<Option<ForHead>, AllocError>
-    ensures found { IfOk result (λ found. option_map spec.read_head found ≡ parts_before (read_fors clauses.items) (option_map cutting.only_part (option_map read_for clause))) }
-    ensures depth { IfOk result (λ found. (outer old new : ℕ) → old ≡ max outer (spec.fors_depth clauses.items) → ForDepth old new clause → spec.HeadDepth outer new found) }
+    ensures found { IfOk result
+        (λ found. option_map spec.read_head found
+        ≡ parts_before (read_fors clauses.items)
+        (option_map cutting.only_part (option_map read_for clause))) }
+    ensures depth { IfOk result
+        (λ found. (outer old new : ℕ) → old ≡ max outer (spec.fors_depth clauses.items)
+        → ForDepth old new clause → spec.HeadDepth outer new found) }
 {
     match clause {
         Some(clause) => {

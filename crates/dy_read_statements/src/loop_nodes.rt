@@ -5,15 +5,15 @@ ghost use Rattle.dy_rules.specs.Loops as loops;
 ghost use Rattle.dy_rules.specs.SeenForms.{seen_statement};
 ghost use Rattle.dy_rules.specs.Trees as trees;
 ghost use Rattle.dy_rules_depth.specs.Capping.{capped};
-ghost use Rattle.dy_read_operators.specs.Grown.{read_grown};
+ghost use Rattle.dy_read_outers.specs.Grown.{read_grown};
 ghost use Rattle.dy_rules.specs.Held.{held_body, held_clauses, held_last, held_stop};
 ghost use Rattle.dy_read_statements.specs.LoopHeads.{read_head};
 ghost use Rattle.dy_read_statements.specs.Loops as spec;
-ghost use Rattle.dy_read_statements.specs.ReadBodies.{read_items};
+ghost use Rattle.dy_read_arms.specs.ReadBodies.{read_items};
 
 use crate::loop_head::ForHead;
 use crate::statement_nodes::statement_within;
-use dy_read_operators::grown::Grown;
+use dy_read_outers::grown::Grown;
 use dy_tree::{ForClause, Item, Statement, Stop, Token};
 use std::alloc::{AllocError, Global};
 
@@ -32,7 +32,8 @@ pub fn no_finally() -> Finally
 
 /// A part behind `finally`.
 pub fn finally_of(body: Option<Vec<Item>>) -> Option<Finally>
-    ensures { option_map spec.read_last result ≡ option_map loops.finally_of (option_map read_items body) }
+    ensures { option_map spec.read_last result
+        ≡ option_map loops.finally_of (option_map read_items body) }
 {
     match body {
         Some(body) => Some(Finally { body: Some(body) }),
@@ -56,7 +57,9 @@ fn for_tree(
     body: Vec<Item>,
     finally: Option<Vec<Item>>,
 ) -> Statement
-    ensures { seen_statement result ≡ trees.for_tree word (held_clauses clauses) (held_stop stop) (held_body body) (held_last finally) }
+    ensures { seen_statement result
+        ≡ trees.for_tree word (held_clauses clauses) (held_stop stop) (held_body body)
+        (held_last finally) }
 {
     Statement::For {
         word,
@@ -77,7 +80,8 @@ fn for_within(
     inside: usize,
 ) -> Result<Grown, AllocError>
     requires { inside ≡ spec.loop_depth (read_head head) (read_items body) (spec.read_last last) }
-    ensures { IfOk result (λ grown. read_grown grown ≡ capped (loops.for_of word.now (read_head head) (read_items body) (spec.read_last last))) }
+    ensures { IfOk result (λ grown. read_grown grown
+        ≡ capped (loops.for_of word.now (read_head head) (read_items body) (spec.read_last last))) }
 {
     let stop = boxed_stop(alloc, head.stop)?;
     let tree = for_tree(word.copy()?, head.clauses, stop, body, last.body);
@@ -94,7 +98,9 @@ pub fn for_node(
     inside: usize,
 ) -> Result<Option<Grown>, AllocError>
     requires { spec.LoopDepth inside head body last }
-    ensures { IfOk result (λ found. option_map read_grown found ≡ option_map capped (spec.loop_made word.now (option_map read_head head) (option_map read_items body) (option_map spec.read_last last))) }
+    ensures { IfOk result (λ found. option_map read_grown found
+        ≡ option_map capped (spec.loop_made word.now (option_map read_head head)
+        (option_map read_items body) (option_map spec.read_last last))) }
 {
     match head {
         Some(head) => match body {

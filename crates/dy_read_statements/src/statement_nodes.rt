@@ -7,12 +7,12 @@ ghost use Rattle.dy_rules.specs.StatementReading as spec;
 ghost use Rattle.dy_rules.specs.Trees as trees;
 ghost use Rattle.dy_rules_depth.specs.Capping.{capped};
 ghost use Rattle.dy_read_statements.specs.FilledInside.{filled_inside};
-ghost use Rattle.dy_read_operators.specs.Grown.{read_grown};
+ghost use Rattle.dy_read_outers.specs.Grown.{read_grown};
 ghost use Rattle.dy_rules.specs.Held.{held_alternative, held_arms, held_last, held_test};
 
-use dy_read_operators::grown::Grown;
-use dy_read_operators::nodes::{grown, too_deep};
-use dy_read_types::depth::DEPTH_LIMIT;
+use dy_read_outers::grown::Grown;
+use dy_read_outers::nodes::{grown, too_deep};
+use dy_read_parts::depth::DEPTH_LIMIT;
 use dy_tree::{Alternative, Arm, Expression, Guard, Item, Parameters, Statement, Token};
 use std::alloc::{AllocError, Global};
 
@@ -25,7 +25,8 @@ pub fn statement_within(
     inside: usize,
 ) -> Result<Grown, AllocError>
     requires { measure.depth (filled_inside (seen_statement statement)) ≡ 1 + inside }
-    ensures { IfOk result (λ grown. read_grown grown ≡ capped (filled_inside (seen_statement statement))) }
+    ensures { IfOk result (λ grown. read_grown grown
+        ≡ capped (filled_inside (seen_statement statement))) }
 {
     if inside < DEPTH_LIMIT {
         grown(alloc, Expression::Statement(statement), inside + 1)
@@ -43,7 +44,8 @@ pub fn begin_tree(word: Token, body: Vec<Item>) -> Statement
 
 /// `unless`, `while` or `until`
 pub fn guarded_tree(guard: Guard, word: Token, test: Box<Expression>, body: Vec<Item>) -> Statement
-    ensures { seen_statement result ≡ spec.guarded_of guard word (seen_tree test.value) (map seen_item body.items) }
+    ensures { seen_statement result
+        ≡ spec.guarded_of guard word (seen_tree test.value) (map seen_item body.items) }
 {
     Statement::Guarded {
         guard,
@@ -55,7 +57,9 @@ pub fn guarded_tree(guard: Guard, word: Token, test: Box<Expression>, body: Vec<
 
 /// `method`
 pub fn method_tree(word: Token, parameters: Box<Parameters>, body: Vec<Item>) -> Statement
-    ensures { seen_statement result ≡ trees.method_tree word (seen_parameters parameters.value) (trees.body_of (map seen_item body.items)) }
+    ensures { seen_statement result
+        ≡ trees.method_tree word (seen_parameters parameters.value)
+        (trees.body_of (map seen_item body.items)) }
 {
     Statement::Method {
         word,
@@ -72,7 +76,9 @@ pub fn if_tree(
     alternatives: Vec<Alternative>,
     otherwise: Option<Vec<Item>>,
 ) -> Statement
-    ensures { seen_statement result ≡ trees.if_tree word (seen_tree test.value) (trees.body_of (map seen_item body.items)) (trees.alternatives_of (map held_alternative alternatives.items)) (held_last otherwise) }
+    ensures { seen_statement result
+        ≡ trees.if_tree word (seen_tree test.value) (trees.body_of (map seen_item body.items))
+        (trees.alternatives_of (map held_alternative alternatives.items)) (held_last otherwise) }
 {
     Statement::If {
         word,
@@ -102,7 +108,9 @@ pub fn select_tree(
     arms: Vec<Arm>,
     otherwise: Option<Vec<Item>>,
 ) -> Statement
-    ensures { seen_statement result ≡ trees.select_tree word (seen_tree value.value) (held_test test) (held_arms arms) (held_last otherwise) }
+    ensures { seen_statement result
+        ≡ trees.select_tree word (seen_tree value.value) (held_test test) (held_arms arms)
+        (held_last otherwise) }
 {
     Statement::Select {
         word,

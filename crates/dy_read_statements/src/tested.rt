@@ -13,8 +13,12 @@ use dy_tree::Fragment;
 /// Round brackets in front, with a test inside.
 pub fn tested(fragments: &[Fragment]) -> Option<Front<'_>>
     ensures test { tested (items_of (seen_fragments fragments.now)) ≡ front_tested result }
-    ensures nested { IfSome result (λ front. nesting (seen_fragments front.inner.now) < nesting (seen_fragments fragments.now)) }
-    ensures behind { IfSome result (λ front. nesting (seen_fragments front.rest.now) ≤ nesting (seen_fragments fragments.now)) }
+    ensures nested { IfSome result
+        (λ front. nesting (seen_fragments front.inner.now) < nesting
+        (seen_fragments fragments.now)) }
+    ensures behind { IfSome result
+        (λ front. nesting (seen_fragments front.rest.now) ≤ nesting
+        (seen_fragments fragments.now)) }
 {
     headed(fragments)
 }

@@ -1,10 +1,6 @@
 pub mod Bounds
-pub mod ConstantCaps
-pub mod ConstantLists
-pub mod ConstantShapes
 pub mod Endings
 pub mod LimitParts
-pub mod NextNesting
 pub mod ResultParts
 pub mod Singles
 pub mod TargetParts

@@ -11,7 +11,8 @@ use Rattle.dy_read_parts.specs.Pieces.{pieces_behind}
 abbrev pub divided_pieces : (SeenFragment → Bool) → List SeenFragment → Option Division → Pieces
 divided_pieces separates fragments None = pieces_behind separates (items_of fragments) []
 divided_pieces separates fragments (Some division) =
-    pieces_behind separates (items_of (seen_fragments division.piece.now)) (seen_fragment division.separator.now ∷ seen_fragments division.behind.now)
+    pieces_behind separates (items_of (seen_fragments division.piece.now))
+    (seen_fragment division.separator.now ∷ seen_fragments division.behind.now)
 
 abbrev pub IsShorter : ℕ → Option Division → Type 0
 IsShorter n None = ⊤

@@ -1,7 +1,3 @@
-pub mod ConstantCaps
-pub mod ConstantFronts
-pub mod ConstantLists
-pub mod ConstantShapes
 pub mod Divisions
 pub mod Endings
 pub mod Limits

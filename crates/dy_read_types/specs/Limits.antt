@@ -1,5 +1,6 @@
 -- The class and the bounds of limited types, as the definitions see them.
-use Rattle.std.specs.Prelude.{Bool, true, false, List, map, Option, Some, None, option_map, option_and_then}
+use Rattle.std.specs.Prelude.{Bool, true, false, List, map, Option, Some, None, option_map}
+use Rattle.std.specs.Prelude.{option_and_then}
 use Rattle.std.specs.Global.{Vec}
 use Rattle.dy_tree.specs.declared.token.Token.{Token}
 use Rattle.dy_tree.specs.declared.types.BoundForm.{BoundForm}

@@ -18,7 +18,8 @@ use Rattle.dy_read_parts.specs.Nesting.{nesting}
 use Rattle.dy_read_types.specs.VariableFronts.{read_variable, read_variables}
 
 abbrev pub read_given : Given → Ending VariableTree VariableTree
-read_given given = record { parts = read_variables given.variables.items; last = option_map read_variable given.rest }
+read_given given = record
+    { parts = read_variables given.variables.items; last = option_map read_variable given.rest }
 
 abbrev pub capped_given : Ending VariableTree VariableTree → Ending VariableTree VariableTree
 capped_given given = changed_given capping given
@@ -30,7 +31,10 @@ abbrev pub capped_results : ResultTree → ResultTree
 capped_results results = changed_results capping results
 
 abbrev pub seen_front : ResultsFront → signatures.ResultsFront
-seen_front front = record { results = option_map read_results front.results; rest = items_of (seen_fragments front.rest.now) }
+seen_front front = record {
+  results = option_map read_results front.results;
+  rest = items_of (seen_fragments front.rest.now);
+}
 
 abbrev pub capped_front : signatures.ResultsFront → signatures.ResultsFront
 capped_front front = record { results = option_map capped_results front.results; rest = front.rest }
@@ -43,7 +47,9 @@ several_in (first ∷ rest) = option_map several_given (give_items (items_of (fi
 -- how deep they are with what was read before
 abbrev pub GivenDepth : ℕ → ℕ → Option Given → Type 0
 GivenDepth old new None = ⊤
-GivenDepth old new (Some given) = new ≡ max old (max (variables_depth (read_variables given.variables.items)) (given_depth (option_map read_variable given.rest)))
+GivenDepth old new (Some given) =
+    new ≡ max old (max (variables_depth (read_variables given.variables.items))
+    (given_depth (option_map read_variable given.rest)))
 
 abbrev pub ResultsDepth : ℕ → ℕ → Option Results → Type 0
 ResultsDepth old new None = ⊤
@@ -51,7 +57,8 @@ ResultsDepth old new (Some results) = new ≡ max old (results_depth (Some (read
 
 abbrev pub FrontDepth : ℕ → ℕ → Option ResultsFront → Type 0
 FrontDepth old new None = ⊤
-FrontDepth old new (Some front) = new ≡ max old (results_depth (option_map read_results front.results))
+FrontDepth old new (Some front) =
+    new ≡ max old (results_depth (option_map read_results front.results))
 
 -- what stands behind them is nested at most so deep
 abbrev pub IsRestWithin : ℕ → Option ResultsFront → Type 0

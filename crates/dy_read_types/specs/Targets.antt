@@ -34,7 +34,8 @@ capped_target target = changed_target capping target
 -- how deep they are with what was read before
 abbrev pub BoundDepth : ℕ → ℕ → Option Variables → Type 0
 BoundDepth old new None = ⊤
-BoundDepth old new (Some bound) = new ≡ max old (variables_depth (read_variables bound.variables.items))
+BoundDepth old new (Some bound) =
+    new ≡ max old (variables_depth (read_variables bound.variables.items))
 
 abbrev pub TargetDepth : ℕ → ℕ → Option Target → Type 0
 TargetDepth old new None = ⊤
@@ -43,4 +44,6 @@ TargetDepth old new (Some target) = new ≡ max old (target_depth (read_target t
 -- the target that round brackets are, with what stands between them, or a variable
 abbrev pub target_read : List Item → Option (Bor (List Fragment)) → Option TargetTree
 target_read items None = option_map one_target (variable_items items)
-target_read items (Some inner) = target_in brackets.Round (pack (seen_fragments inner.now)) (bind_items (items_of (seen_fragments inner.now)))
+target_read items (Some inner) =
+    target_in brackets.Round (pack (seen_fragments inner.now))
+    (bind_items (items_of (seen_fragments inner.now)))

@@ -14,7 +14,8 @@ use Rattle.dy_rules_depth.specs.Capping.{capped_type}
 use Rattle.dy_read_types.specs.TypeCaps.{read_type, read_types}
 
 abbrev pub seen_front : TypeFront → reading.TypeFront
-seen_front front = record { type = read_type front.declared; rest = items_of (seen_fragments front.rest.now) }
+seen_front front = record
+    { type = read_type front.declared; rest = items_of (seen_fragments front.rest.now) }
 
 abbrev pub capped_front : reading.TypeFront → reading.TypeFront
 capped_front front = record { type = capped_type front.type; rest = front.rest }

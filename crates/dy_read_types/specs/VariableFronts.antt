@@ -23,7 +23,8 @@ abbrev pub capped_variable : VariableTree → VariableTree
 capped_variable variable = changed_variable capping variable
 
 abbrev pub seen_front : VariableFront → reading.VariableFront
-seen_front front = record { variable = read_variable front.variable; rest = items_of (seen_fragments front.rest.now) }
+seen_front front = record
+    { variable = read_variable front.variable; rest = items_of (seen_fragments front.rest.now) }
 
 abbrev pub capped_front : reading.VariableFront → reading.VariableFront
 capped_front front = record { variable = capped_variable front.variable; rest = front.rest }

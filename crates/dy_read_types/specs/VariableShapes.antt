@@ -9,5 +9,7 @@ use Rattle.dy_read_types.specs.declared.variable_shape.VariableShape.TheVariants
 -- what is read where a variable begins so
 abbrev pub variable_read : VariableShape → Option VariableFront
 variable_read shapes.Nothing = None
-variable_read (shapes.Plain token rest) = Some (untyped_front token.now (items_of (seen_fragments rest.now)))
-variable_read (shapes.Typed token rest) = option_map (typed_front token.now) (type_front (items_of (seen_fragments rest.now)))
+variable_read (shapes.Plain token rest) =
+    Some (untyped_front token.now (items_of (seen_fragments rest.now)))
+variable_read (shapes.Typed token rest) =
+    option_map (typed_front token.now) (type_front (items_of (seen_fragments rest.now)))

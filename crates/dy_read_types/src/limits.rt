@@ -31,7 +31,9 @@ fn bounds_behind(
     alloc: Global,
     fragments: &[Fragment],
 ) -> Result<Option<Vec<BoundForm>>, AllocError>
-    ensures { IfOk result (λ found. option_map seen_bounds found ≡ each_other spec.bound_items (others_in is_comma_fragment (seen_fragments fragments.now))) }
+    ensures { IfOk result (λ found. option_map seen_bounds found
+        ≡ each_other spec.bound_items
+        (others_in is_comma_fragment (seen_fragments fragments.now))) }
 {
     let mut bounds = Vec::new(alloc);
     let mut rest = fragments;
@@ -48,7 +50,8 @@ fn bounds_behind(
 
 /// The bounds of a limited type, where each stands once at most.
 fn bounds_in(alloc: Global, fragments: &[Fragment]) -> Result<Option<Vec<BoundForm>>, AllocError>
-    ensures { IfOk result (λ found. option_map seen_bounds found ≡ spec.bounds_in (others_in is_comma_fragment (seen_fragments fragments.now))) }
+    ensures { IfOk result (λ found. option_map seen_bounds found
+        ≡ spec.bounds_in (others_in is_comma_fragment (seen_fragments fragments.now))) }
 {
     match bounds_behind(alloc, fragments)? {
         Some(bounds) => {
@@ -82,7 +85,8 @@ fn class_in(fragments: &[Fragment]) -> Result<Option<Token>, AllocError>
 /// What stands between the brackets of a limited type.
 #[tactic(auto, using(crate::proofs::LimitParts::limits_cut))]
 pub fn limits_in(alloc: Global, fragments: &[Fragment]) -> Result<Option<Limits>, AllocError>
-    ensures { IfOk result (λ found. option_map seen_limits found ≡ spec.limits_items (items_of (seen_fragments fragments.now))) }
+    ensures { IfOk result (λ found. option_map seen_limits found
+        ≡ spec.limits_items (items_of (seen_fragments fragments.now))) }
 {
     let (piece, others) = split_piece(Separator::Comma, false, fragments);
     match class_in(piece)? {

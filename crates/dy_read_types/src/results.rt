@@ -8,8 +8,11 @@ ghost use Rattle.dy_rules.specs.Signatures as signatures;
 ghost use Rattle.dy_rules.specs.TypeReading as reading;
 ghost use Rattle.dy_read_types.specs.Endings.{parts_before, last_part};
 ghost use Rattle.dy_read_types.specs.VariableFronts as fronts;
-ghost use Rattle.dy_read_types.specs.VariableFronts.{read_variable, read_variables, capped_variable, VariableDepth};
-ghost use Rattle.dy_read_types.specs.Results.{read_given, capped_given, read_results, capped_results, seen_front, capped_front, several_in, GivenDepth, ResultsDepth, FrontDepth};
+ghost use Rattle.dy_read_types.specs.VariableFronts.{read_variable, read_variables};
+ghost use Rattle.dy_read_types.specs.VariableFronts.{capped_variable, VariableDepth};
+ghost use Rattle.dy_read_types.specs.Results.{read_given, capped_given, read_results};
+ghost use Rattle.dy_read_types.specs.Results.{capped_results, seen_front, capped_front, several_in};
+ghost use Rattle.dy_read_types.specs.Results.{GivenDepth, ResultsDepth, FrontDepth};
 
 use crate::division::divide;
 use crate::variables::{VariableFront, variable_front, variable_items};
@@ -39,7 +42,10 @@ fn rest_variable(
     fragments: &[Fragment],
     depth: &mut usize,
 ) -> Result<Option<Variable>, AllocError>
-    ensures found { IfOk result (λ found. option_map read_variable found ≡ option_map capped_variable (signatures.rest_variable (items_of (seen_fragments fragments.now)))) }
+    ensures found { IfOk result
+        (λ found. option_map read_variable found
+        ≡ option_map capped_variable
+        (signatures.rest_variable (items_of (seen_fragments fragments.now)))) }
     ensures depth { IfOk result (λ found. VariableDepth depth.old depth.new found) }
 {
     match fragments.split_first() {
@@ -55,8 +61,16 @@ fn last_given(
     fragments: &[Fragment],
     depth: &mut usize,
 ) -> Result<Option<Given>, AllocError>
-    ensures found { IfOk result (λ found. option_map read_given found ≡ parts_before (read_variables variables.items) (option_map capped_given (last_part (reading.marked (codes "#rest")) reading.variable_items signatures.rest_variable (seen_fragments fragments.now)))) }
-    ensures depth { IfOk result (λ found. (outer : ℕ) → depth.old ≡ max outer (variables_depth (read_variables variables.items)) → GivenDepth outer depth.new found) }
+    ensures found { IfOk result
+        (λ found. option_map read_given found
+        ≡ parts_before (read_variables variables.items)
+        (option_map capped_given (last_part
+        (reading.marked (codes "#rest")) reading.variable_items signatures.rest_variable
+        (seen_fragments fragments.now)))) }
+    ensures depth { IfOk result
+        (λ found. (outer : ℕ) → depth.old
+        ≡ max outer (variables_depth (read_variables variables.items))
+        → GivenDepth outer depth.new found) }
 {
     if marked(b"#rest", fragments) {
         match rest_variable(alloc, fragments, depth)? {
@@ -87,7 +101,10 @@ pub fn give_items(
     fragments: &[Fragment],
     depth: &mut usize,
 ) -> Result<Option<Given>, AllocError>
-    ensures found { IfOk result (λ found. option_map read_given found ≡ option_map capped_given (signatures.give_items (items_of (seen_fragments fragments.now)))) }
+    ensures found { IfOk result
+        (λ found. option_map read_given found
+        ≡ option_map capped_given
+        (signatures.give_items (items_of (seen_fragments fragments.now)))) }
     ensures depth { IfOk result (λ found. GivenDepth depth.old depth.new found) }
 {
     let mut variables = Vec::new(alloc);
@@ -104,7 +121,8 @@ pub fn give_items(
 
 #[tactic(auto, using(crate::proofs::VariableParts::read_each, crate::proofs::VariableParts::read_maybe))]
 fn several(given: Option<Given>) -> Option<Results>
-    ensures { option_map read_results result ≡ option_map signatures.several_given (option_map read_given given) }
+    ensures { option_map read_results result
+        ≡ option_map signatures.several_given (option_map read_given given) }
 {
     match given {
         Some(Given { variables, rest }) => Some(Results::Several { variables, rest }),
@@ -118,7 +136,9 @@ fn several_in(
     inner: &[Fragment],
     depth: &mut usize,
 ) -> Result<Option<Results>, AllocError>
-    ensures found { IfOk result (λ found. option_map read_results found ≡ option_map capped_results (several_in (seen_fragments inner.now))) }
+    ensures found { IfOk result
+        (λ found. option_map read_results found
+        ≡ option_map capped_results (several_in (seen_fragments inner.now))) }
     ensures depth { IfOk result (λ found. ResultsDepth depth.old depth.new found) }
 {
     if inner.is_empty() {
@@ -132,7 +152,9 @@ fn several_in(
 }
 
 fn in_front<'a>(results: Option<Results>, rest: &'a [Fragment]) -> Option<ResultsFront<'a>>
-    ensures { option_map seen_front result ≡ option_map (signatures.results_in_front (items_of (seen_fragments rest.now))) (option_map read_results results) }
+    ensures { option_map seen_front result
+        ≡ option_map (signatures.results_in_front (items_of (seen_fragments rest.now)))
+        (option_map read_results results) }
 {
     match results {
         Some(results) => Some(ResultsFront {
@@ -145,7 +167,8 @@ fn in_front<'a>(results: Option<Results>, rest: &'a [Fragment]) -> Option<Result
 
 /// The one result that stands without brackets.
 fn one<'a>(front: Option<VariableFront<'a>>) -> Option<ResultsFront<'a>>
-    ensures { option_map seen_front result ≡ option_map signatures.variable_result (option_map fronts.seen_front front.entry) }
+    ensures { option_map seen_front result
+        ≡ option_map signatures.variable_result (option_map fronts.seen_front front.entry) }
 {
     match front {
         Some(front) => Some(ResultsFront {
@@ -162,7 +185,10 @@ fn results_behind<'a>(
     fragments: &'a [Fragment],
     depth: &mut usize,
 ) -> Result<Option<ResultsFront<'a>>, AllocError>
-    ensures front { IfOk result (λ found. option_map seen_front found ≡ option_map capped_front (signatures.results_behind (items_of (seen_fragments fragments.now)))) }
+    ensures front { IfOk result
+        (λ found. option_map seen_front found
+        ≡ option_map capped_front
+        (signatures.results_behind (items_of (seen_fragments fragments.now)))) }
     ensures depth { IfOk result (λ found. FrontDepth depth.old depth.new found) }
 {
     match headed(fragments) {
@@ -177,7 +203,10 @@ pub fn results_front<'a>(
     fragments: &'a [Fragment],
     depth: &mut usize,
 ) -> Result<Option<ResultsFront<'a>>, AllocError>
-    ensures front { IfOk result (λ found. option_map seen_front found ≡ option_map capped_front (signatures.results_front (items_of (seen_fragments fragments.now)))) }
+    ensures front { IfOk result
+        (λ found. option_map seen_front found
+        ≡ option_map capped_front
+        (signatures.results_front (items_of (seen_fragments fragments.now)))) }
     ensures depth { IfOk result (λ found. FrontDepth depth.old depth.new found) }
 {
     match fragments.split_first() {

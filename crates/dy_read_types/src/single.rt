@@ -7,7 +7,7 @@ ghost use Rattle.dy_rules.specs.TypeReading as spec;
 ghost use Rattle.dy_rules.specs.SeenTypes.{seen_bound, seen_single};
 ghost use Rattle.dy_read_types.specs.Tests.{is_negative};
 
-use crate::literal::{negative, token_literal};
+use dy_read_parts::literal::{negative, token_literal};
 use dy_read_words::bracket::bracket_of;
 use dy_read_words::role::role_of;
 use dy_read_words::sign::is_bound;
@@ -15,7 +15,8 @@ use dy_tree::{BoundForm, Bracket, Fragment, IntegerForm, Role, SingleForm, Token
 use std::alloc::AllocError;
 
 fn single_token(token: &Token) -> Result<Option<SingleForm>, AllocError>
-    ensures { IfOk result (λ found. option_map seen_single found ≡ spec.single_token (rules.role_of token.now) token.now) }
+    ensures { IfOk result (λ found. option_map seen_single found
+        ≡ spec.single_token (rules.role_of token.now) token.now) }
 {
     match role_of(token) {
         Role::Named => Ok(Some(SingleForm::Name(token.copy()?))),
@@ -34,7 +35,9 @@ fn is_negative(sign: &Token, digits: &Token) -> bool
 }
 
 fn negative_single(sign: &Token, digits: &Token) -> Result<Option<SingleForm>, AllocError>
-    ensures { IfOk result (λ found. option_map seen_single found ≡ spec.negative_single (rules.role_of sign.now) (rules.role_of digits.now) sign.now digits.now) }
+    ensures { IfOk result (λ found. option_map seen_single found
+        ≡ spec.negative_single (rules.role_of sign.now)
+        (rules.role_of digits.now) sign.now digits.now) }
 {
     if is_negative(sign, digits) {
         Ok(Some(SingleForm::Literal(negative(sign, digits)?)))
@@ -49,7 +52,9 @@ fn single_group(
     inner: &[Fragment],
     closer: &Token,
 ) -> Result<Option<SingleForm>, AllocError>
-    ensures { IfOk result (λ found. option_map seen_single found ≡ spec.single_group (rules.bracket_of opener.now closer.now) (pack (seen_fragments inner.now)) opener.now) }
+    ensures { IfOk result (λ found. option_map seen_single found
+        ≡ spec.single_group (rules.bracket_of opener.now closer.now)
+        (pack (seen_fragments inner.now)) opener.now) }
 {
     match bracket_of(opener, closer) {
         Bracket::SharpRound => {
@@ -66,7 +71,8 @@ fn single_group(
 }
 
 fn single_alone(fragment: &Fragment) -> Result<Option<SingleForm>, AllocError>
-    ensures { IfOk result (λ found. option_map seen_single found ≡ spec.single_in (seen_fragment fragment.now ∷ [])) }
+    ensures { IfOk result (λ found. option_map seen_single found
+        ≡ spec.single_in (seen_fragment fragment.now ∷ [])) }
 {
     match fragment {
         Fragment::One(token) => single_token(token),
@@ -79,7 +85,8 @@ fn single_alone(fragment: &Fragment) -> Result<Option<SingleForm>, AllocError>
 }
 
 fn single_pair(first: &Fragment, second: &Fragment) -> Result<Option<SingleForm>, AllocError>
-    ensures { IfOk result (λ found. option_map seen_single found ≡ spec.single_in (seen_fragment first.now ∷ seen_fragment second.now ∷ [])) }
+    ensures { IfOk result (λ found. option_map seen_single found
+        ≡ spec.single_in (seen_fragment first.now ∷ seen_fragment second.now ∷ [])) }
 {
     match first {
         Fragment::One(sign) => match second {
@@ -92,7 +99,8 @@ fn single_pair(first: &Fragment, second: &Fragment) -> Result<Option<SingleForm>
 
 #[tactic(auto, using(crate::proofs::Singles::single_longer))]
 fn single_from(first: &Fragment, rest: &[Fragment]) -> Result<Option<SingleForm>, AllocError>
-    ensures { IfOk result (λ found. option_map seen_single found ≡ spec.single_in (seen_fragment first.now ∷ seen_fragments rest.now)) }
+    ensures { IfOk result (λ found. option_map seen_single found
+        ≡ spec.single_in (seen_fragment first.now ∷ seen_fragments rest.now)) }
 {
     match rest.split_first() {
         None => single_alone(first),
@@ -108,7 +116,8 @@ fn single_from(first: &Fragment, rest: &[Fragment]) -> Result<Option<SingleForm>
 
 /// The value of a singleton type.
 pub fn single_in(fragments: &[Fragment]) -> Result<Option<SingleForm>, AllocError>
-    ensures { IfOk result (λ found. option_map seen_single found ≡ spec.single_in (seen_fragments fragments.now)) }
+    ensures { IfOk result (λ found. option_map seen_single found
+        ≡ spec.single_in (seen_fragments fragments.now)) }
 {
     match fragments.split_first() {
         None => Ok(None),
@@ -117,7 +126,8 @@ pub fn single_in(fragments: &[Fragment]) -> Result<Option<SingleForm>, AllocErro
 }
 
 fn plain_integer(digits: &Token) -> Result<Option<IntegerForm>, AllocError>
-    ensures { IfOk result (λ found. found ≡ spec.plain_integer (rules.role_of digits.now) digits.now) }
+    ensures { IfOk result (λ found. found
+        ≡ spec.plain_integer (rules.role_of digits.now) digits.now) }
 {
     match role_of(digits) {
         Role::Integer => Ok(Some(IntegerForm {
@@ -129,7 +139,9 @@ fn plain_integer(digits: &Token) -> Result<Option<IntegerForm>, AllocError>
 }
 
 fn negative_integer(sign: &Token, digits: &Token) -> Result<Option<IntegerForm>, AllocError>
-    ensures { IfOk result (λ found. found ≡ spec.negative_integer_of (rules.role_of sign.now) (rules.role_of digits.now) sign.now digits.now) }
+    ensures { IfOk result (λ found. found
+        ≡ spec.negative_integer_of (rules.role_of sign.now)
+        (rules.role_of digits.now) sign.now digits.now) }
 {
     if is_negative(sign, digits) {
         Ok(Some(IntegerForm {
@@ -154,7 +166,8 @@ pub fn integer_in(fragments: &[Fragment]) -> Result<Option<IntegerForm>, AllocEr
 
 /// A bound of a limited type.
 pub fn bound_in(fragments: &[Fragment]) -> Result<Option<BoundForm>, AllocError>
-    ensures { IfOk result (λ found. option_map seen_bound found ≡ spec.bound_in (seen_fragments fragments.now)) }
+    ensures { IfOk result (λ found. option_map seen_bound found
+        ≡ spec.bound_in (seen_fragments fragments.now)) }
 {
     match fragments {
         [Fragment::One(keyword), digits @ ..] if is_bound(keyword) => match integer_in(digits)? {

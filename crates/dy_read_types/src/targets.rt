@@ -9,8 +9,10 @@ ghost use Rattle.dy_rules.specs.Fragments.{items_of};
 ghost use Rattle.dy_rules.specs.TypeReading as reading;
 ghost use Rattle.dy_rules.specs.Types.{one_target};
 ghost use Rattle.dy_read_types.specs.Endings.{parts_before, last_part};
-ghost use Rattle.dy_read_types.specs.VariableFronts.{read_variable, read_variables, capped_variable, VariableDepth};
-ghost use Rattle.dy_read_types.specs.Targets.{read_bound, read_target, capped_bound, capped_target, target_read, BoundDepth, TargetDepth};
+ghost use Rattle.dy_read_types.specs.VariableFronts.{read_variable, read_variables};
+ghost use Rattle.dy_read_types.specs.VariableFronts.{capped_variable, VariableDepth};
+ghost use Rattle.dy_read_types.specs.Targets.{read_bound, read_target, capped_bound, capped_target};
+ghost use Rattle.dy_read_types.specs.Targets.{target_read, BoundDepth, TargetDepth};
 
 use crate::division::divide;
 use crate::variables::variable_items;
@@ -28,8 +30,16 @@ fn last_bound(
     fragments: &[Fragment],
     depth: &mut usize,
 ) -> Result<Option<Variables>, AllocError>
-    ensures found { IfOk result (λ found. option_map read_bound found ≡ parts_before (read_variables variables.items) (option_map capped_bound (last_part (reading.marked (codes "#rest")) reading.variable_items reading.name_items (seen_fragments fragments.now)))) }
-    ensures depth { IfOk result (λ found. (outer : ℕ) → depth.old ≡ max outer (variables_depth (read_variables variables.items)) → BoundDepth outer depth.new found) }
+    ensures found { IfOk result
+        (λ found. option_map read_bound found
+        ≡ parts_before (read_variables variables.items)
+        (option_map capped_bound (last_part
+        (reading.marked (codes "#rest")) reading.variable_items reading.name_items
+        (seen_fragments fragments.now)))) }
+    ensures depth { IfOk result
+        (λ found. (outer : ℕ) → depth.old
+        ≡ max outer (variables_depth (read_variables variables.items))
+        → BoundDepth outer depth.new found) }
 {
     if marked(b"#rest", fragments) {
         match name_in(fragments)? {
@@ -60,7 +70,9 @@ pub fn bind_items(
     fragments: &[Fragment],
     depth: &mut usize,
 ) -> Result<Option<Variables>, AllocError>
-    ensures found { IfOk result (λ found. option_map read_bound found ≡ option_map capped_bound (reading.bind_items (items_of (seen_fragments fragments.now)))) }
+    ensures found { IfOk result
+        (λ found. option_map read_bound found
+        ≡ option_map capped_bound (reading.bind_items (items_of (seen_fragments fragments.now)))) }
     ensures depth { IfOk result (λ found. BoundDepth depth.old depth.new found) }
 {
     let mut variables = Vec::new(alloc);
@@ -77,7 +89,8 @@ pub fn bind_items(
 
 /// The target that is one variable.
 fn one(variable: Option<Variable>) -> Option<Target>
-    ensures { option_map read_target result ≡ option_map one_target (option_map read_variable variable) }
+    ensures { option_map read_target result
+        ≡ option_map one_target (option_map read_variable variable) }
 {
     match variable {
         Some(variable) => Some(Target::One(variable)),
@@ -88,7 +101,8 @@ fn one(variable: Option<Variable>) -> Option<Target>
 /// The target that is several variables.
 #[tactic(auto, using(crate::proofs::VariableParts::read_each))]
 fn several(bound: Option<Variables>) -> Option<Target>
-    ensures { option_map read_target result ≡ option_map reading.several_of (option_map read_bound bound) }
+    ensures { option_map read_target result
+        ≡ option_map reading.several_of (option_map read_bound bound) }
 {
     match bound {
         Some(bound) => Some(Target::Several(bound)),
@@ -102,7 +116,11 @@ fn bracketed(
     inner: &[Fragment],
     depth: &mut usize,
 ) -> Result<Option<Target>, AllocError>
-    ensures found { IfOk result (λ found. option_map read_target found ≡ option_map capped_target (reading.target_in brackets.Round (pack (seen_fragments inner.now)) (reading.bind_items (items_of (seen_fragments inner.now))))) }
+    ensures found { IfOk result
+        (λ found. option_map read_target found
+        ≡ option_map capped_target
+        (reading.target_in brackets.Round (pack (seen_fragments inner.now))
+        (reading.bind_items (items_of (seen_fragments inner.now))))) }
     ensures depth { IfOk result (λ found. TargetDepth depth.old depth.new found) }
 {
     if inner.is_empty() {
@@ -117,7 +135,8 @@ fn bracketed(
 
 /// What stands between the round brackets that fragments are.
 fn brackets_alone(fragments: &[Fragment]) -> Option<&[Fragment]>
-    ensures { reading.target_items (items_of (seen_fragments fragments.now)) ≡ target_read (items_of (seen_fragments fragments.now)) result }
+    ensures { reading.target_items (items_of (seen_fragments fragments.now))
+        ≡ target_read (items_of (seen_fragments fragments.now)) result }
 {
     match headed(fragments) {
         Some(front) => {
@@ -137,7 +156,10 @@ pub fn target_items(
     fragments: &[Fragment],
     depth: &mut usize,
 ) -> Result<Option<Target>, AllocError>
-    ensures found { IfOk result (λ found. option_map read_target found ≡ option_map capped_target (reading.target_items (items_of (seen_fragments fragments.now)))) }
+    ensures found { IfOk result
+        (λ found. option_map read_target found
+        ≡ option_map capped_target
+        (reading.target_items (items_of (seen_fragments fragments.now)))) }
     ensures depth { IfOk result (λ found. TargetDepth depth.old depth.new found) }
 {
     match brackets_alone(fragments) {

@@ -38,7 +38,9 @@ fn shape_by<'a>(
     others: &'a [Fragment],
 ) -> TypeShape<'a>
     requires { is_absent word.now ≡ false }
-    ensures shape { spec.seen_shape result ≡ spec.shape_by (types.type_word word.now) word.now (seen_fragments inner.now) (seen_fragments behind.now) (seen_fragments others.now) }
+    ensures shape { spec.seen_shape result
+        ≡ spec.shape_by (types.type_word word.now) word.now (seen_fragments inner.now)
+        (seen_fragments behind.now) (seen_fragments others.now) }
     ensures present { spec.IsPresent (spec.seen_shape result) }
     ensures nested { spec.IsNested (nesting (seen_fragments inner.now)) (spec.seen_shape result) }
 {
@@ -62,7 +64,9 @@ fn shape_in<'a>(
     others: &'a [Fragment],
 ) -> TypeShape<'a>
     requires { is_absent word.now ≡ false }
-    ensures shape { spec.seen_shape result ≡ spec.shape_in bracket word.now (seen_fragments inner.now) (seen_fragments behind.now) (seen_fragments others.now) }
+    ensures shape { spec.seen_shape result
+        ≡ spec.shape_in bracket word.now (seen_fragments inner.now) (seen_fragments behind.now)
+        (seen_fragments others.now) }
     ensures present { spec.IsPresent (spec.seen_shape result) }
     ensures nested { spec.IsNested (nesting (seen_fragments inner.now)) (spec.seen_shape result) }
 {
@@ -76,7 +80,8 @@ fn shape_from<'a>(word: &'a Token, rest: &'a [Fragment]) -> TypeShape<'a>
     requires { is_absent word.now ≡ false }
     ensures shape { spec.seen_shape result ≡ spec.shape_from word.now (seen_fragments rest.now) }
     ensures present { spec.IsPresent (spec.seen_shape result) }
-    ensures shallower { spec.IsShallower (nesting (seen_fragments rest.now)) (spec.seen_shape result) }
+    ensures shallower { spec.IsShallower (nesting (seen_fragments rest.now))
+        (spec.seen_shape result) }
 {
     match rest.split_first() {
         None => TypeShape::Name { word, rest },
@@ -91,7 +96,8 @@ fn shape_from<'a>(word: &'a Token, rest: &'a [Fragment]) -> TypeShape<'a>
 pub fn type_shape<'a>(fragments: &'a [Fragment]) -> TypeShape<'a>
     ensures shape { spec.seen_shape result ≡ spec.shape_of (seen_fragments fragments.now) }
     ensures present { spec.IsPresent (spec.seen_shape result) }
-    ensures shallower { spec.IsShallower (nesting (seen_fragments fragments.now)) (spec.seen_shape result) }
+    ensures shallower { spec.IsShallower (nesting (seen_fragments fragments.now))
+        (spec.seen_shape result) }
 {
     match fragments.split_first() {
         None => TypeShape::Nothing,

@@ -9,14 +9,16 @@ ghost use Rattle.dy_rules.specs.Fragments.{items_of};
 ghost use Rattle.dy_rules.specs.Depth.{types_depth, type_depth};
 ghost use Rattle.dy_rules_depth.specs.Capping.{is_absent, capped_type, deep_type};
 ghost use Rattle.dy_read_types.specs.TypeCaps.{read_type, read_types};
-ghost use Rattle.dy_read_types.specs.TypeFronts.{seen_front, capped_front, capped_union, capped_types, seen_types, FrontDepth, TypeDepth, TypesDepth};
+ghost use Rattle.dy_read_types.specs.TypeFronts.{seen_front, capped_front, capped_union};
+ghost use Rattle.dy_read_types.specs.TypeFronts.{capped_types, seen_types, FrontDepth, TypeDepth};
+ghost use Rattle.dy_read_types.specs.TypeFronts.{TypesDepth};
 ghost use Rattle.dy_read_types.specs.TypeShapes as spec;
 
-use crate::depth::{DEPTH_LIMIT, deepen};
 use crate::limits::{Limits, limits_in};
 use crate::single::single_in;
 use crate::type_shape::{TypeShape, type_shape};
 use dy_read_parts::cutting::{behind_first, piece_len};
+use dy_read_parts::depth::{DEPTH_LIMIT, deepen};
 use dy_read_parts::separator::Separator;
 use dy_tree::{Fragment, Token, TokenKind, TypeForm, TypeWord};
 use std::alloc::{AllocError, Global};
@@ -52,7 +54,9 @@ fn union_within(
     depth: &mut usize,
 ) -> Result<TypeForm, AllocError>
     requires { inside ≡ types_depth (typing.types_of (read_types types.items)) }
-    ensures made { IfOk result (λ made. read_type made ≡ capped_type (reading.union_of word.now (read_types types.items))) }
+    ensures made { IfOk result
+        (λ made. read_type made ≡ capped_type
+        (reading.union_of word.now (read_types types.items))) }
     ensures depth { IfOk result (λ made. depth.new ≡ max depth.old (type_depth (read_type made))) }
 {
     if inside < DEPTH_LIMIT {
@@ -73,7 +77,9 @@ fn union(
     depth: &mut usize,
 ) -> Result<Option<TypeForm>, AllocError>
     requires { TypesDepth 0 inside types }
-    ensures found { IfOk result (λ found. option_map read_type found ≡ option_map (capped_union word.now) (option_map seen_types types)) }
+    ensures found { IfOk result
+        (λ found. option_map read_type found
+        ≡ option_map (capped_union word.now) (option_map seen_types types)) }
     ensures depth { IfOk result (λ found. TypeDepth depth.old depth.new found) }
 {
     match types {
@@ -90,8 +96,12 @@ fn named<'a>(
     depth: &mut usize,
 ) -> Result<TypeFront<'a>, AllocError>
     requires { is_absent word.now ≡ false }
-    ensures front { IfOk result (λ front. seen_front front ≡ capped_front (reading.in_front (items_of (seen_fragments rest.now)) (typing.named_type word.now))) }
-    ensures depth { IfOk result (λ front. depth.new ≡ max depth.old (type_depth (read_type front.declared))) }
+    ensures front { IfOk result
+        (λ front. seen_front front
+        ≡ capped_front (reading.in_front (items_of (seen_fragments rest.now))
+        (typing.named_type word.now))) }
+    ensures depth { IfOk result
+        (λ front. depth.new ≡ max depth.old (type_depth (read_type front.declared))) }
 {
     deepen(depth, 1);
     Ok(TypeFront {
@@ -107,7 +117,10 @@ fn singleton(
     inner: &[Fragment],
     depth: &mut usize,
 ) -> Result<Option<TypeForm>, AllocError>
-    ensures found { IfOk result (λ found. option_map read_type found ≡ option_map capped_type (option_map (typing.singleton_type word.now) (reading.single_in (seen_fragments inner.now)))) }
+    ensures found { IfOk result
+        (λ found. option_map read_type found
+        ≡ option_map capped_type (option_map (typing.singleton_type word.now)
+        (reading.single_in (seen_fragments inner.now)))) }
     ensures depth { IfOk result (λ found. TypeDepth depth.old depth.new found) }
 {
     match single_in(inner)? {
@@ -130,7 +143,10 @@ fn limited(
     inner: &[Fragment],
     depth: &mut usize,
 ) -> Result<Option<TypeForm>, AllocError>
-    ensures found { IfOk result (λ found. option_map read_type found ≡ option_map capped_type (option_map (reading.limited_of word.now) (reading.limits_items (items_of (seen_fragments inner.now))))) }
+    ensures found { IfOk result
+        (λ found. option_map read_type found
+        ≡ option_map capped_type (option_map (reading.limited_of word.now)
+        (reading.limits_items (items_of (seen_fragments inner.now))))) }
     ensures depth { IfOk result (λ found. TypeDepth depth.old depth.new found) }
 {
     match limits_in(alloc, inner)? {
@@ -148,7 +164,9 @@ fn limited(
 
 /// A type that was read, with what stands behind it.
 fn in_front<'a>(declared: Option<TypeForm>, rest: &'a [Fragment]) -> Option<TypeFront<'a>>
-    ensures { option_map seen_front result ≡ option_map (reading.in_front (items_of (seen_fragments rest.now))) (option_map read_type declared) }
+    ensures { option_map seen_front result
+        ≡ option_map (reading.in_front (items_of (seen_fragments rest.now)))
+        (option_map read_type declared) }
 {
     match declared {
         Some(declared) => Some(TypeFront { declared, rest }),
@@ -158,7 +176,8 @@ fn in_front<'a>(declared: Option<TypeForm>, rest: &'a [Fragment]) -> Option<Type
 
 /// A type that nothing stands behind.
 fn whole(front: Option<TypeFront>) -> Option<TypeForm>
-    ensures { option_map read_type result ≡ option_and_then reading.whole_type (option_map seen_front front.entry) }
+    ensures { option_map read_type result
+        ≡ option_and_then reading.whole_type (option_map seen_front front.entry) }
 {
     match front {
         Some(front) => {
@@ -181,7 +200,9 @@ fn form_type(
     inner: &[Fragment],
     depth: &mut usize,
 ) -> Result<Option<TypeForm>, AllocError>
-    ensures found { IfOk result (λ found. option_map read_type found ≡ option_map capped_type (spec.form_read form word.now (seen_fragments inner.now))) }
+    ensures found { IfOk result
+        (λ found. option_map read_type found
+        ≡ option_map capped_type (spec.form_read form word.now (seen_fragments inner.now))) }
     ensures depth { IfOk result (λ found. TypeDepth depth.old depth.new found) }
 {
     match form {
@@ -204,7 +225,9 @@ pub fn type_front<'a>(
     fragments: &'a [Fragment],
     depth: &mut usize,
 ) -> Result<Option<TypeFront<'a>>, AllocError>
-    ensures front { IfOk result (λ found. option_map seen_front found ≡ option_map capped_front (reading.type_front (items_of (seen_fragments fragments.now)))) }
+    ensures front { IfOk result
+        (λ found. option_map seen_front found
+        ≡ option_map capped_front (reading.type_front (items_of (seen_fragments fragments.now)))) }
     ensures depth { IfOk result (λ found. FrontDepth depth.old depth.new found) }
 {
     match type_shape(fragments) {
@@ -226,7 +249,9 @@ pub fn type_items(
     fragments: &[Fragment],
     depth: &mut usize,
 ) -> Result<Option<TypeForm>, AllocError>
-    ensures found { IfOk result (λ found. option_map read_type found ≡ option_map capped_type (reading.type_items (items_of (seen_fragments fragments.now)))) }
+    ensures found { IfOk result
+        (λ found. option_map read_type found
+        ≡ option_map capped_type (reading.type_items (items_of (seen_fragments fragments.now)))) }
     ensures depth { IfOk result (λ found. TypeDepth depth.old depth.new found) }
 {
     Ok(whole(type_front(alloc, fragments, depth)?))
@@ -239,7 +264,9 @@ pub fn types_items(
     fragments: &[Fragment],
     depth: &mut usize,
 ) -> Result<Option<Vec<TypeForm>>, AllocError>
-    ensures found { IfOk result (λ found. option_map seen_types found ≡ option_map capped_types (reading.types_items (items_of (seen_fragments fragments.now)))) }
+    ensures found { IfOk result
+        (λ found. option_map seen_types found
+        ≡ option_map capped_types (reading.types_items (items_of (seen_fragments fragments.now)))) }
     ensures depth { IfOk result (λ found. TypesDepth depth.old depth.new found) }
 {
     let mut types = Vec::new(alloc);

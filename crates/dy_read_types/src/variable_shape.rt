@@ -29,7 +29,8 @@ pub enum VariableShape<'a> {
 }
 
 fn shape_from<'a>(name: &'a Token, rest: &'a [Fragment]) -> VariableShape<'a>
-    ensures { reading.variable_from name.now (items_of (seen_fragments rest.now)) ≡ variable_read result }
+    ensures { reading.variable_from name.now (items_of (seen_fragments rest.now))
+        ≡ variable_read result }
 {
     match rest.split_first() {
         Some((sign, behind)) if is_colons(sign) => VariableShape::Typed { name, rest: behind },
@@ -38,7 +39,8 @@ fn shape_from<'a>(name: &'a Token, rest: &'a [Fragment]) -> VariableShape<'a>
 }
 
 fn shape_named<'a>(token: &'a Token, rest: &'a [Fragment]) -> VariableShape<'a>
-    ensures { reading.variable_named (rules.role_of token.now) token.now (items_of (seen_fragments rest.now)) ≡ variable_read result }
+    ensures { reading.variable_named (rules.role_of token.now) token.now
+        (items_of (seen_fragments rest.now)) ≡ variable_read result }
 {
     match role_of(token) {
         Role::Named => shape_from(token, rest),
@@ -47,7 +49,8 @@ fn shape_named<'a>(token: &'a Token, rest: &'a [Fragment]) -> VariableShape<'a>
 }
 
 fn shape_at<'a>(first: &'a Fragment, rest: &'a [Fragment]) -> VariableShape<'a>
-    ensures { reading.variable_front (items_of (seen_fragment first.now ∷ seen_fragments rest.now)) ≡ variable_read result }
+    ensures { reading.variable_front (items_of (seen_fragment first.now ∷ seen_fragments rest.now))
+        ≡ variable_read result }
 {
     match first {
         Fragment::One(token) => shape_named(token, rest),
@@ -57,7 +60,8 @@ fn shape_at<'a>(first: &'a Fragment, rest: &'a [Fragment]) -> VariableShape<'a>
 
 /// How the variable at the front of fragments begins.
 pub fn variable_shape(fragments: &[Fragment]) -> VariableShape<'_>
-    ensures { reading.variable_front (items_of (seen_fragments fragments.now)) ≡ variable_read result }
+    ensures { reading.variable_front (items_of (seen_fragments fragments.now))
+        ≡ variable_read result }
 {
     match fragments.split_first() {
         Some((first, rest)) => shape_at(first, rest),

@@ -5,7 +5,8 @@ ghost use Rattle.dy_tree.specs.Fragments.{seen_fragments};
 ghost use Rattle.dy_rules.specs.TypeReading as reading;
 ghost use Rattle.dy_rules.specs.Fragments.{items_of};
 ghost use Rattle.dy_read_types.specs.TypeFronts as types;
-ghost use Rattle.dy_read_types.specs.VariableFronts.{read_variable, capped_variable, seen_front, capped_front, FrontDepth, VariableDepth};
+ghost use Rattle.dy_read_types.specs.VariableFronts.{read_variable, capped_variable, seen_front};
+ghost use Rattle.dy_read_types.specs.VariableFronts.{capped_front, FrontDepth, VariableDepth};
 
 use crate::types::{TypeFront, type_front};
 use crate::variable_shape::{VariableShape, variable_shape};
@@ -21,7 +22,8 @@ pub struct VariableFront<'a> {
 
 /// A variable without a type.
 fn untyped<'a>(name: &Token, rest: &'a [Fragment]) -> Result<VariableFront<'a>, AllocError>
-    ensures { IfOk result (λ front. seen_front front ≡ reading.untyped_front name.now (items_of (seen_fragments rest.now))) }
+    ensures { IfOk result (λ front. seen_front front
+        ≡ reading.untyped_front name.now (items_of (seen_fragments rest.now))) }
 {
     Ok(VariableFront {
         variable: Variable {
@@ -37,7 +39,8 @@ fn typed<'a>(
     name: &Token,
     declared: Option<TypeFront<'a>>,
 ) -> Result<Option<VariableFront<'a>>, AllocError>
-    ensures { IfOk result (λ found. option_map seen_front found ≡ option_map (reading.typed_front name.now) (option_map types.seen_front declared.entry)) }
+    ensures { IfOk result (λ found. option_map seen_front found
+        ≡ option_map (reading.typed_front name.now) (option_map types.seen_front declared.entry)) }
 {
     match declared {
         Some(front) => Ok(Some(VariableFront {
@@ -57,7 +60,10 @@ pub fn variable_front<'a>(
     fragments: &'a [Fragment],
     depth: &mut usize,
 ) -> Result<Option<VariableFront<'a>>, AllocError>
-    ensures front { IfOk result (λ found. option_map seen_front found ≡ option_map capped_front (reading.variable_front (items_of (seen_fragments fragments.now)))) }
+    ensures front { IfOk result
+        (λ found. option_map seen_front found
+        ≡ option_map capped_front
+        (reading.variable_front (items_of (seen_fragments fragments.now)))) }
     ensures depth { IfOk result (λ found. FrontDepth depth.old depth.new found) }
 {
     match variable_shape(fragments) {
@@ -69,7 +75,8 @@ pub fn variable_front<'a>(
 
 /// A variable that nothing stands behind.
 fn whole(front: Option<VariableFront>) -> Option<Variable>
-    ensures { option_map read_variable result ≡ option_and_then reading.whole_variable (option_map seen_front front.entry) }
+    ensures { option_map read_variable result
+        ≡ option_and_then reading.whole_variable (option_map seen_front front.entry) }
 {
     match front {
         Some(front) => {
@@ -89,7 +96,10 @@ pub fn variable_items(
     fragments: &[Fragment],
     depth: &mut usize,
 ) -> Result<Option<Variable>, AllocError>
-    ensures found { IfOk result (λ found. option_map read_variable found ≡ option_map capped_variable (reading.variable_items (items_of (seen_fragments fragments.now)))) }
+    ensures found { IfOk result
+        (λ found. option_map read_variable found
+        ≡ option_map capped_variable
+        (reading.variable_items (items_of (seen_fragments fragments.now)))) }
     ensures depth { IfOk result (λ found. VariableDepth depth.old depth.new found) }
 {
     Ok(whole(variable_front(alloc, fragments, depth)?))

@@ -3,7 +3,8 @@ use Rattle.std.specs.Prelude.{Bool, false, ◌&&◌, List}
 use Rattle.dy_tree.specs.declared.token.Token.{Token}
 use Rattle.dy_tree.specs.declared.definition_words.DefineWord.{DefineWord}
 use Rattle.dy_tree.specs.declared.definition_words.DefineWord.TheVariants as define_words
-use Rattle.dy_rules.specs.Definitions.{is_open, is_sealed, is_abstract, is_concrete, is_primary, is_free, has}
+use Rattle.dy_rules.specs.Definitions.{is_open, is_sealed, is_abstract, is_concrete, is_primary}
+use Rattle.dy_rules.specs.Definitions.{is_free, has}
 
 -- whether a word is this adjective of a class
 abbrev pub is_adjective : DefineWord → DefineWord → Bool
@@ -16,4 +17,5 @@ is_adjective define_words.Free word = is_free word
 is_adjective _ word = false
 
 abbrev pub has_both : DefineWord → DefineWord → List Token → Bool
-has_both first second adjectives = has (is_adjective first) adjectives && has (is_adjective second) adjectives
+has_both first second adjectives =
+    has (is_adjective first) adjectives && has (is_adjective second) adjectives

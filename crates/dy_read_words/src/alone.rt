@@ -18,7 +18,8 @@ pub fn token_of(fragment: &Fragment) -> Option<&Token>
 
 /// The one token that the fragments are.
 pub fn token_alone(fragments: &[Fragment]) -> Option<&Token>
-    ensures { option_map (λ token. token.now) result ≡ spec.token_alone (seen_fragments fragments.now) }
+    ensures { option_map (λ token. token.now) result
+        ≡ spec.token_alone (seen_fragments fragments.now) }
 {
     match fragments {
         [only] => token_of(only),

@@ -55,7 +55,9 @@ fn is_product(token: &Token) -> bool
 }
 
 fn is_comparison(token: &Token) -> bool
-    ensures { result ≡ spec.is_among (codes "=" ∷ codes "==" ∷ codes "<" ∷ codes ">" ∷ codes "<=" ∷ codes ">=" ∷ codes "~=" ∷ codes "~==" ∷ []) token.now }
+    ensures { result ≡ spec.is_among
+        (codes "=" ∷ codes "==" ∷ codes "<" ∷ codes ">" ∷ codes "<=" ∷ codes ">=" ∷ codes "~="
+        ∷ codes "~==" ∷ []) token.now }
 {
     token.is_spelled(b"=")
         || token.is_spelled(b"==")

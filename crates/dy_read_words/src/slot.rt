@@ -78,7 +78,8 @@ fn is_plain_literal(form: &LiteralForm) -> bool
 
 /// Whether a list is `#()`.
 fn is_nil(items: &[ConstantForm], tail: &Option<ConstantForm>) -> bool
-    ensures { result ≡ is_nil (constants_of (map seen_constant items.now)) (tail_of (option_map seen_constant tail.now)) }
+    ensures { result ≡ is_nil (constants_of (map seen_constant items.now))
+        (tail_of (option_map seen_constant tail.now)) }
 {
     match items.split_first() {
         Some(_) => false,

@@ -8,7 +8,9 @@ use crate::role::role_of;
 use dy_tree::{Role, SlotWord, Token, TokenKind};
 
 fn is_allocation_word(token: &Token) -> bool
-    ensures { result ≡ is_among (codes "instance" ∷ codes "class" ∷ codes "each-subclass" ∷ codes "virtual" ∷ []) token.now }
+    ensures { result ≡ is_among
+        (codes "instance" ∷ codes "class" ∷ codes "each-subclass" ∷ codes "virtual" ∷ [])
+        token.now }
 {
     token.is_spelled(b"instance")
         || token.is_spelled(b"class")

@@ -10,4 +10,4 @@ mod parameters;
 mod slots;
 mod statements;
 
-pub use forms::unparse;
+pub use forms::push_form;

@@ -1,14 +1,14 @@
 use Rattle.dy_rules_depth.specs.Capping.{capping, capped, filling}
 use Rattle.dy_rules_depth.specs.Changes.{changed_clause, changed_item, changed_method, changed_for, changed_stop_tree, changed_argument, changed_otherwise}
 use Rattle.dy_rules_depth.specs.ReaderChanges.{changed_choices, changed_head, changed_loop, changed_passing, changed_state}
+use Rattle.dy_read_outers.specs.Grown.{read_grown}
+use Rattle.dy_read_outers.specs.Passed.{read_passed}
+use Rattle.dy_read_outers.specs.ReadTrees.{read_tree}
+use Rattle.dy_read_outers.specs.declared.grown.Grown.{Grown}
 use Rattle.dy_read_operators.proofs.MachineLoops.{ahead_read, group_read as machine_read, passed_end, passed_none, all_end, all_none}
-use Rattle.dy_read_operators.specs.Grown.{read_grown}
 use Rattle.dy_read_operators.specs.Machines.{passed_if, tree_if, seen_machine}
-use Rattle.dy_read_operators.specs.Passed.{read_passed}
 use Rattle.dy_read_operators.specs.PassingSteps.{ahead, need_ahead, value_group}
 use Rattle.dy_read_operators.specs.Passings.{seen_passing}
-use Rattle.dy_read_operators.specs.ReadTrees.{read_tree}
-use Rattle.dy_read_operators.specs.declared.grown.Grown.{Grown}
 use Rattle.dy_read_operators.specs.declared.state.Need.{Need}
 use Rattle.dy_read_parts.proofs.Nesting.{within_more}
 use Rattle.dy_read_parts.proofs.PieceRows.{part_read, part_fails}
@@ -44,23 +44,25 @@ use Rattle.dy_read_shapes.specs.declared.item_shape.MethodGroup.{MethodGroup}
 use Rattle.dy_read_shapes.specs.declared.keys_read.KeysRead.{KeysRead}
 use Rattle.dy_read_shapes.specs.declared.list_heads.ListFront.{ListFront}
 use Rattle.dy_read_shapes.specs.declared.loop_shape.LimitShape.{LimitShape}
-use Rattle.dy_read_statements.proofs.Arms.{none_given, nothing_left, something_left, case_through, arm_depths, arm_reads, on_none, one_less, nothing_first, something_first, head_is, alone_through, by_through, select_through, tests_more}
+use Rattle.dy_read_statements.proofs.Arms.{none_given, nothing_left, something_left, case_through, arm_depths, on_none, one_less, nothing_first, something_first, head_is, alone_through, by_through, select_through, tests_more}
+use Rattle.dy_read_arms.proofs.ArmsBehind.{arm_reads}
 use Rattle.dy_read_statements.proofs.Blocks.{block_found, afterwards_through, cleanup_through, afterwards_depth, cleanup_depth, clause_more, clause_missing, clauses_deeper, clause_found, exception_depth}
 use Rattle.dy_read_statements.proofs.Branches.{alternative_through, if_through, all_are, another, none_read, not_last, at_last, all_read, last_depths, alternatives_more}
 use Rattle.dy_read_statements.proofs.LoopHeads.{some_items, fors_more, fors_deeper}
 use Rattle.dy_read_statements.proofs.Loops.{loop_found, parts_deep}
-use Rattle.dy_read_statements.proofs.Statements.{read_as, both_are, begin_through, guarded_through, method_through as statement_through}
-use Rattle.dy_read_statements.specs.Arms.{read_behind}
-use Rattle.dy_read_statements.specs.BodyDepths.{ClauseDepth, ItemDepth, TargetDepth, MethodDepth}
+use Rattle.dy_read_statements.proofs.Statements.{both_are, begin_through, guarded_through, method_through as statement_through}
+use Rattle.dy_read_arms.proofs.Results.{read_as}
+use Rattle.dy_read_arms.specs.Arms.{read_behind}
+use Rattle.dy_read_arms.specs.BodyDepths.{ClauseDepth, ItemDepth, TargetDepth, MethodDepth}
 use Rattle.dy_read_statements.specs.Branches.{capped_others}
 use Rattle.dy_read_statements.specs.CaughtShapes.{read_caught}
 use Rattle.dy_read_statements.specs.Heads.{no_head}
 use Rattle.dy_read_statements.specs.LoopHeads.{read_head, head_depth, capped_parts, capped_last, fors_depth, HeadDepth}
 use Rattle.dy_read_statements.specs.Loops.{read_last, loop_at}
-use Rattle.dy_read_statements.specs.ReadArms.{capped_pieces, capped_case, arm_read, last_read, capped_first, capped_trees, capped_choice, capped_piece, choices_on, capped_select, read_tests}
-use Rattle.dy_read_statements.specs.ReadBodies.{read_items, read_clauses, read_clause, read_item, read_target, read_method, read_methods}
+use Rattle.dy_read_arms.specs.ReadArms.{capped_pieces, capped_case, arm_read, last_read, capped_first, capped_trees, capped_choice, capped_piece, choices_on, capped_select, read_tests}
+use Rattle.dy_read_arms.specs.ReadBodies.{read_items, read_clauses, read_clause, read_item, read_target, read_method, read_methods}
 use Rattle.dy_read_statements.specs.ReadBranches.{alternative_of, alternative_behind, capped_alternative, capped_if, read_alternative, others_with, alternative_items, others_before, AlternativeDepth}
-use Rattle.dy_read_statements.specs.ReadItems.{capped_items}
+use Rattle.dy_read_arms.specs.ReadItems.{capped_items}
 use Rattle.dy_read_statements.specs.ReadLoops.{read_for, ForDepth, read_fors, read_range}
 use Rattle.dy_read_statements.specs.ReadMethods.{method_of_parts, read_parts, named_parts, capped_named}
 use Rattle.dy_read_statements.specs.ReadStatements.{both, front_tested, all_three, capped_begin, capped_guarded, capped_method_tree}

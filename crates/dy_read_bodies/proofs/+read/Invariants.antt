@@ -11,11 +11,11 @@ use Rattle.dy_read_shapes.specs.ItemShapes.{methods_items}
 use Rattle.dy_read_shapes.specs.LoopShapes.{last_nesting, parts_nesting, range_nesting}
 use Rattle.dy_read_shapes.specs.PieceNesting.{pieces_nesting}
 use Rattle.dy_read_shapes.specs.ReadKeys.{read_each_key, capped_key, all_at, some_all}
-use Rattle.dy_read_statements.specs.Arms.{read_behind}
+use Rattle.dy_read_arms.specs.Arms.{read_behind}
 use Rattle.dy_read_statements.specs.Branches.{capped_others}
 use Rattle.dy_read_statements.specs.LoopHeads.{capped_parts, fors_depth}
-use Rattle.dy_read_statements.specs.ReadArms.{choices_on, read_tests, capped_trees}
-use Rattle.dy_read_statements.specs.ReadBodies.{read_clauses, read_items, read_methods}
+use Rattle.dy_read_arms.specs.ReadArms.{choices_on, read_tests, capped_trees}
+use Rattle.dy_read_arms.specs.ReadBodies.{read_clauses, read_items, read_methods}
 use Rattle.dy_read_statements.specs.ReadBranches.{read_alternative, others_before}
 use Rattle.dy_read_statements.specs.ReadLoops.{read_fors}
 use Rattle.dy_rules.specs.Arguments.{is_comma_fragment}

@@ -1,16 +1,13 @@
 //! Whole forms.
 
-ghost use Rattle.std.specs.Prelude.{◌≡◌, ◌≤◌, ◌++◌, List, [], ◌∷◌, map, codes, IfOk, OnOk};
-ghost use Rattle.dy_tree.specs.Fragments.{SeenFragment, one, seen_fragments};
+ghost use Rattle.std.specs.Prelude.{◌≡◌, ◌++◌, [], ◌∷◌, map, codes, OnOk};
+ghost use Rattle.dy_tree.specs.Fragments.{one, seen_fragments};
 ghost use Rattle.dy_rules.specs.Trees.{body_of};
-ghost use Rattle.dy_rules.specs.Forms.{IsForm, class_form, generic_form, method_form};
+ghost use Rattle.dy_rules.specs.Forms.{class_form, generic_form, method_form};
 ghost use Rattle.dy_rules.specs.Forms.{function_form, domain_form};
 ghost use Rattle.dy_rules.specs.Marks.{equals_mark, semicolon_mark, statement_group, word_mark};
 ghost use Rattle.dy_rules.specs.TypeWriting.{written_target};
 ghost use Rattle.dy_rules.specs.Writing.{written, written_body, written_signature};
-ghost use Rattle.dy_rules.specs.Depth.{depth_limit};
-ghost use Rattle.dy_rules.specs.FormDepth.{form_depth};
-ghost use Rattle.dy_rules.specs.Parsing.{accepted, parsed};
 ghost use Rattle.dy_rules.specs.FormWriting.{written_form};
 ghost use Rattle.dy_rules.specs.SeenTypes.{seen_target, seen_type};
 ghost use Rattle.dy_rules.specs.SeenForms.{seen_form, seen_item, seen_parameters, seen_slot};
@@ -225,8 +222,8 @@ fn push_domain(
     push_round(alloc, out, inner)
 }
 
-/// Adds a form.
-fn push_form(alloc: Global, form: &Form, out: &mut Vec<Fragment>) -> Result<(), AllocError>
+/// Adds the canonical fragments of a form. The only error is that memory did not suffice.
+pub fn push_form(alloc: Global, form: &Form, out: &mut Vec<Fragment>) -> Result<(), AllocError>
     ensures { OnOk result (seen_fragments out.new.items
         ≡ seen_fragments out.old.items ++ written_form (seen_form form.now)) }
 {
@@ -276,29 +273,4 @@ fn push_form(alloc: Global, form: &Form, out: &mut Vec<Fragment>) -> Result<(), 
             types,
         } => push_domain(alloc, define, name, types, out),
     }
-}
-
-/// The canonical fragments of a form (DRM, appendix A).
-///
-/// Round brackets stand round every operand that is no leaf, round a symbol or a negative literal
-/// that is an operand, round an integer under a minus, and round a name, or a member with a name,
-/// that splits some statement. A semicolon stands behind the results of a method, and none at the
-/// end of a body. Tokens of the tree are given as they are; a word, mark or bracket that the tree
-/// does not hold is made: it has place 0 of file 0, origin 0 and module 0. The only error is that
-/// memory did not suffice.
-pub fn unparse(alloc: Global, form: &Form) -> Result<Vec<Fragment>, AllocError>
-    ensures writes { IfOk result
-        (λ fragments. seen_fragments fragments.items ≡ written_form (seen_form form.now)) }
-    // What stands for some fragments is what the fragments that are given stand for.
-    ensures stands { (fragments : List SeenFragment) → IsForm (seen_form form.now) fragments
-        → IfOk result (λ written. IsForm (seen_form form.now) (seen_fragments written.items)) }
-    // It is told to be this form, where it is within the limit of depth.
-    ensures again { (fragments : List SeenFragment) → IsForm (seen_form form.now) fragments
-        → form_depth (seen_form form.now) ≤ depth_limit
-        → IfOk result (λ written. parsed (seen_fragments written.items)
-        ≡ accepted (seen_form form.now)) }
-{
-    let mut out = Vec::new(alloc);
-    push_form(alloc, form, &mut out)?;
-    Ok(out)
 }

@@ -1,6 +1,6 @@
 use Rattle.std.proofs.Common.{Option, subst}
 use Rattle.dy_tree.specs.declared.expression.Item.{Item}
-use Rattle.dy_read_statements.specs.BodyDepths.{ItemDepth}
+use Rattle.dy_read_arms.specs.BodyDepths.{ItemDepth}
 use Rattle.dy_read_bodies.proofs.arms.present.Goals as goal
 
 pub returns-in-Some-clause-depth : goal.returns-in-Some-clause-depth

@@ -3,7 +3,7 @@ use Rattle.std.specs.Global.{Vec}
 use Rattle.dy_tree.specs.declared.expression.Item.{Item}
 use Rattle.dy_rules.specs.Blocks.{afterwards_of}
 use Rattle.dy_rules.specs.SeenForms.{seen_clause, seen_item}
-use Rattle.dy_read_statements.specs.ReadBodies.{read_items}
+use Rattle.dy_read_arms.specs.ReadBodies.{read_items}
 use Rattle.dy_read_statements.proofs.Blocks.{afterwards_filled}
 use Rattle.dy_read_bodies.proofs.blocks.afterwards.Goals as goal
 

@@ -3,7 +3,7 @@ use Rattle.dy_tree.specs.declared.expression.BlockClause.{BlockClause}
 use Rattle.dy_rules.specs.Productions.{suit_block}
 use Rattle.dy_rules.specs.SeenForms.{seen_clause}
 use Rattle.dy_rules_depth.specs.Capping.{capped}
-use Rattle.dy_read_statements.specs.ReadBodies.{read_items}
+use Rattle.dy_read_arms.specs.ReadBodies.{read_items}
 use Rattle.dy_read_statements.proofs.Blocks.{suits, unsuited}
 use Rattle.dy_read_bodies.proofs.blocks.block_suits.Goals as goal
 

@@ -3,9 +3,9 @@ use Rattle.std.proofs.lemmas.Result.{IfOk-weaker}
 use Rattle.dy_tree.specs.declared.token.Token.{Token}
 use Rattle.dy_rules_depth.specs.Capping.{capped}
 use Rattle.dy_read_statements.specs.CaughtShapes.{block_read}
-use Rattle.dy_read_operators.specs.Grown.{read_grown}
-use Rattle.dy_read_statements.specs.ReadBodies.{read_clauses, read_items}
-use Rattle.dy_read_operators.specs.declared.grown.Grown.{Grown}
+use Rattle.dy_read_outers.specs.Grown.{read_grown}
+use Rattle.dy_read_arms.specs.ReadBodies.{read_clauses, read_items}
+use Rattle.dy_read_outers.specs.declared.grown.Grown.{Grown}
 use Rattle.dy_read_bodies.proofs.blocks.block_with.Goals as goal
 
 pub returns-in-Some : goal.returns-in-Some

@@ -5,9 +5,9 @@ use Rattle.dy_rules.specs.Depth.{depth}
 use Rattle.dy_rules.specs.SeenForms.{seen_clause, seen_item, seen_statement}
 use Rattle.dy_rules_depth.specs.Capping.{capped}
 use Rattle.dy_read_statements.specs.FilledInside.{filled_inside}
-use Rattle.dy_read_operators.specs.Grown.{read_grown}
-use Rattle.dy_read_statements.specs.ReadBodies.{read_items, read_clauses}
-use Rattle.dy_read_operators.specs.declared.grown.Grown.{Grown}
+use Rattle.dy_read_outers.specs.Grown.{read_grown}
+use Rattle.dy_read_arms.specs.ReadBodies.{read_items, read_clauses}
+use Rattle.dy_read_outers.specs.declared.grown.Grown.{Grown}
 use Rattle.dy_read_statements.proofs.Blocks.{block_filled}
 use Rattle.dy_read_bodies.proofs.blocks.block_within.Goals as goal
 

@@ -1,6 +1,6 @@
 use Rattle.std.proofs.Common.{Option, option_map, sym, ap, ◌∙◌}
 use Rattle.dy_read_statements.specs.CaughtShapes.{clause_read, read_caught}
-use Rattle.dy_read_statements.specs.ReadBodies.{read_items}
+use Rattle.dy_read_arms.specs.ReadBodies.{read_items}
 use Rattle.dy_read_statements.specs.declared.caught.Caught.{Caught}
 use Rattle.dy_read_bodies.proofs.blocks.exception.Goals as goal
 

@@ -4,7 +4,7 @@ use Rattle.dy_tree.specs.declared.expression.Item.{Item}
 use Rattle.dy_rules.specs.SeenForms.{seen_clause, seen_item}
 use Rattle.dy_rules.specs.SeenTypes.{seen_type}
 use Rattle.dy_read_statements.specs.CaughtShapes.{clause_to, read_caught}
-use Rattle.dy_read_statements.specs.ReadBodies.{read_items}
+use Rattle.dy_read_arms.specs.ReadBodies.{read_items}
 use Rattle.dy_read_statements.proofs.Blocks.{exception_filled}
 use Rattle.dy_read_bodies.proofs.blocks.exception_with.Goals as goal
 

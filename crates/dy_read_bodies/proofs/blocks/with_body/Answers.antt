@@ -3,11 +3,11 @@ use Rattle.std.proofs.lemmas.Result.{IfOk-weaker}
 use Rattle.std.specs.Global.{Vec}
 use Rattle.dy_tree.specs.declared.expression.Item.{Item}
 use Rattle.dy_rules_depth.specs.Capping.{capped}
-use Rattle.dy_read_statements.specs.BodyDepths.{BodyDepth}
+use Rattle.dy_read_arms.specs.BodyDepths.{BodyDepth}
 use Rattle.dy_read_statements.specs.CaughtShapes.{block_to}
-use Rattle.dy_read_operators.specs.Grown.{read_grown}
-use Rattle.dy_read_statements.specs.ReadBodies.{read_clauses, read_items}
-use Rattle.dy_read_operators.specs.declared.grown.Grown.{Grown}
+use Rattle.dy_read_outers.specs.Grown.{read_grown}
+use Rattle.dy_read_arms.specs.ReadBodies.{read_clauses, read_items}
+use Rattle.dy_read_outers.specs.declared.grown.Grown.{Grown}
 use Rattle.dy_read_bodies.proofs.blocks.with_body.Goals as goal
 
 pub with_clauses-requires-clause-body : goal.with_clauses-requires-clause-body

@@ -4,10 +4,10 @@ use Rattle.std.specs.Global.{Vec}
 use Rattle.dy_tree.specs.declared.expression.BlockClause.{BlockClause}
 use Rattle.dy_rules.specs.Blocks.{block_body}
 use Rattle.dy_rules_depth.specs.Capping.{capped}
-use Rattle.dy_read_statements.specs.BodyDepths.{ClausesDepth}
-use Rattle.dy_read_operators.specs.Grown.{read_grown}
-use Rattle.dy_read_statements.specs.ReadBodies.{read_clauses, read_items}
-use Rattle.dy_read_operators.specs.declared.grown.Grown.{Grown}
+use Rattle.dy_read_arms.specs.BodyDepths.{ClausesDepth}
+use Rattle.dy_read_outers.specs.Grown.{read_grown}
+use Rattle.dy_read_arms.specs.ReadBodies.{read_clauses, read_items}
+use Rattle.dy_read_outers.specs.declared.grown.Grown.{Grown}
 use Rattle.dy_read_bodies.proofs.blocks.with_clauses.Goals as goal
 
 pub block_suits-requires : goal.block_suits-requires

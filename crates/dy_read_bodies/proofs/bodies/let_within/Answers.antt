@@ -4,7 +4,7 @@ use Rattle.dy_rules.specs.Depth.{item_depth}
 use Rattle.dy_rules.specs.Trees.{let_item}
 use Rattle.dy_rules_depth.specs.Changes.{changed_item}
 use Rattle.dy_rules_depth.specs.Capping.{filling}
-use Rattle.dy_read_operators.specs.ReadTrees.{read_tree}
+use Rattle.dy_read_outers.specs.ReadTrees.{read_tree}
 use Rattle.dy_read_types.specs.Targets.{read_target}
 use Rattle.dy_read_bodies.proofs.bodies.let_within.Goals as goal
 

@@ -6,11 +6,11 @@ use Rattle.dy_rules.specs.Trees.{body_of}
 use Rattle.dy_read_statements.specs.ReadBranches.{others_depth}
 use Rattle.dy_rules_depth.specs.Capping.{capped}
 use Rattle.dy_read_statements.specs.Branches.{read_others}
-use Rattle.dy_read_operators.specs.Grown.{read_grown}
+use Rattle.dy_read_outers.specs.Grown.{read_grown}
 use Rattle.dy_read_statements.specs.FilledInside.{filled_inside}
-use Rattle.dy_read_statements.specs.ReadBodies.{read_items}
+use Rattle.dy_read_arms.specs.ReadBodies.{read_items}
 use Rattle.dy_read_statements.proofs.Branches.{if_filled, if_deep}
-use Rattle.dy_read_statements.proofs.Statements.{read_as}
+use Rattle.dy_read_arms.proofs.Results.{read_as}
 use Rattle.dy_read_bodies.proofs.choice.if_within.Goals as goal
 
 pub statement_within-requires : goal.statement_within-requires

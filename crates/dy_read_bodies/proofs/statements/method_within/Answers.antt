@@ -2,11 +2,12 @@ use Rattle.std.proofs.Common.{◌≡◌, ◌+◌, ap, arith}
 use Rattle.dy_rules.specs.Depth.{depth}
 use Rattle.dy_rules.specs.SeenForms.{seen_parameters, seen_statement}
 use Rattle.dy_rules_depth.specs.Capping.{capped}
-use Rattle.dy_read_operators.specs.Grown.{read_grown}
+use Rattle.dy_read_outers.specs.Grown.{read_grown}
 use Rattle.dy_read_statements.specs.FilledInside.{filled_inside}
 use Rattle.dy_read_statements.specs.ReadMethods.{read_parts}
 use Rattle.dy_read_statements.specs.ReadStatements.{method_of}
-use Rattle.dy_read_statements.proofs.Statements.{method_filled, read_as}
+use Rattle.dy_read_statements.proofs.Statements.{method_filled}
+use Rattle.dy_read_arms.proofs.Results.{read_as}
 use Rattle.dy_read_bodies.proofs.statements.method_within.Goals as goal
 
 pub statement_within-requires : goal.statement_within-requires

@@ -1,7 +1,7 @@
 use Rattle.std.proofs.Common.{Option, subst}
 use Rattle.dy_rules.specs.SeenForms.{seen_items}
 use Rattle.dy_read_statements.specs.declared.method_read.NamedRead.{NamedRead}
-use Rattle.dy_read_statements.specs.ReadBodies.{read_parameters}
+use Rattle.dy_read_arms.specs.ReadBodies.{read_parameters}
 use Rattle.dy_read_statements.specs.ReadMethods.{NamedDepth}
 use Rattle.dy_read_forms.proofs.Deepest.{method_deep}
 use Rattle.dy_read_forms.proofs.definitions.method_of.Goals as goal

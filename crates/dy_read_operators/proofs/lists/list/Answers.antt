@@ -1,7 +1,7 @@
 use Rattle.std.proofs.Common.{Some, option_map, sym, ap, ◌∙◌}
 use Rattle.dy_tree.specs.Fragments.{pack, seen_fragments}
 use Rattle.dy_rules.specs.ConstantReading.{list_in}
-use Rattle.dy_read_types.specs.ConstantFronts.{read_inside}
+use Rattle.dy_read_constants.specs.ConstantFronts.{read_inside}
 use Rattle.dy_read_operators.specs.ListTrees.{capped_list}
 use Rattle.dy_read_operators.proofs.ListTrees.{list_through}
 use Rattle.dy_read_operators.proofs.lists.list.Goals as goal

@@ -3,11 +3,11 @@ use Rattle.std.proofs.lemmas.Result.{IfOk-weaker}
 use Rattle.dy_rules.specs.Fragments.{list_tree}
 use Rattle.dy_rules.specs.SeenForms.{seen_tree}
 use Rattle.dy_rules_depth.specs.Capping.{deep_tree}
-use Rattle.dy_read_types.specs.ConstantFronts.{read_inside}
-use Rattle.dy_read_operators.specs.Grown.{read_grown}
-use Rattle.dy_read_operators.specs.ReadTrees.{read_tree}
+use Rattle.dy_read_constants.specs.ConstantFronts.{read_inside}
+use Rattle.dy_read_outers.specs.Grown.{read_grown}
+use Rattle.dy_read_outers.specs.ReadTrees.{read_tree}
+use Rattle.dy_read_outers.proofs.Fills.{Made}
 use Rattle.dy_read_operators.specs.ListTrees.{capped_list}
-use Rattle.dy_read_operators.proofs.Fills.{Made}
 use Rattle.dy_read_operators.proofs.ListTrees.{list_made, list_beyond}
 use Rattle.dy_read_operators.proofs.lists.list_within.Goals as goal
 

@@ -1,7 +1,7 @@
 use Rattle.std.proofs.Common.{Some, option_map, sym, ap, ◌∙◌}
 use Rattle.dy_tree.specs.Fragments.{pack, seen_fragments}
 use Rattle.dy_rules.specs.ConstantReading.{vector_in}
-use Rattle.dy_read_types.specs.ConstantFronts.{read_vector}
+use Rattle.dy_read_constants.specs.ConstantFronts.{read_vector}
 use Rattle.dy_read_operators.specs.ListTrees.{capped_vector}
 use Rattle.dy_read_operators.proofs.ListTrees.{vector_through}
 use Rattle.dy_read_operators.proofs.lists.vector.Goals as goal

@@ -2,7 +2,7 @@ use Rattle.std.proofs.Common.{◌≡◌, ap, ◌∙◌}
 use Rattle.dy_tree.specs.declared.expression.Expression.{Expression}
 use Rattle.dy_rules.specs.SeenForms.{seen_tree}
 use Rattle.dy_rules.specs.Reading.{with_last}
-use Rattle.dy_read_operators.specs.ReadTrees.{seen_list}
+use Rattle.dy_read_outers.specs.ReadTrees.{seen_list}
 use Rattle.dy_read_operators.proofs.PassingSteps.{last_seen, last_deepest, last_within}
 use Rattle.dy_read_operators.proofs.passing.with_last.Goals as goal
 

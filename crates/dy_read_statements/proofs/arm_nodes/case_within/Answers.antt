@@ -3,11 +3,11 @@ use Rattle.dy_rules.specs.Depth.{depth}
 use Rattle.dy_rules.specs.SeenForms.{seen_statement}
 use Rattle.dy_rules.specs.StatementReading.{case_of}
 use Rattle.dy_rules_depth.specs.Capping.{capped}
-use Rattle.dy_read_statements.specs.Arms.{read_choices}
-use Rattle.dy_read_operators.specs.Grown.{read_grown}
+use Rattle.dy_read_arms.specs.Arms.{read_choices}
+use Rattle.dy_read_outers.specs.Grown.{read_grown}
 use Rattle.dy_read_statements.specs.FilledInside.{filled_inside}
 use Rattle.dy_read_statements.proofs.Arms.{case_filled}
-use Rattle.dy_read_statements.proofs.Statements.{read_as}
+use Rattle.dy_read_arms.proofs.Results.{read_as}
 use Rattle.dy_read_statements.proofs.arm_nodes.case_within.Goals as goal
 
 pub statement_within-requires : goal.statement_within-requires

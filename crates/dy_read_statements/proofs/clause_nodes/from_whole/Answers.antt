@@ -3,10 +3,10 @@ use Rattle.dy_rules.specs.Depth.{depth, variable_depth, for_clause_depth, limit_
 use Rattle.dy_rules.specs.Trees as trees
 use Rattle.dy_rules_depth.specs.Changes.{changed_for}
 use Rattle.dy_rules_depth.specs.Capping.{filling}
-use Rattle.dy_read_operators.specs.Grown.{read_grown}
+use Rattle.dy_read_outers.specs.Grown.{read_grown}
 use Rattle.dy_read_types.specs.VariableFronts.{read_variable}
 use Rattle.dy_read_statements.specs.ReadLoops.{read_bounded, read_step}
-use Rattle.dy_read_statements.proofs.Maxima.{four_deep}
+use Rattle.dy_read_arms.proofs.Maxima.{four_deep}
 use Rattle.dy_read_statements.proofs.clause_nodes.from_whole.Goals as goal
 
 pub returns-clause-found : goal.returns-clause-found

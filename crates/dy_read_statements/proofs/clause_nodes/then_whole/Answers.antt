@@ -1,9 +1,9 @@
 use Rattle.std.proofs.Common.{max, sym, ap, ◌∙◌}
 use Rattle.dy_tree.specs.declared.expression.Expression.{Expression}
 use Rattle.dy_rules.specs.Depth.{depth, variable_depth}
-use Rattle.dy_read_operators.specs.ReadTrees.{read_tree}
+use Rattle.dy_read_outers.specs.ReadTrees.{read_tree}
 use Rattle.dy_read_types.specs.VariableFronts.{read_variable}
-use Rattle.dy_read_statements.proofs.Maxima.{three_deep}
+use Rattle.dy_read_arms.proofs.Maxima.{three_deep}
 use Rattle.dy_read_statements.proofs.clause_nodes.then_whole.Goals as goal
 
 pub returns-clause-depth : goal.returns-clause-depth

@@ -5,12 +5,12 @@ use Rattle.dy_rules.specs.Loops.{for_of}
 use Rattle.dy_rules.specs.SeenForms.{seen_statement}
 use Rattle.dy_rules_depth.specs.Capping.{capped}
 use Rattle.dy_read_statements.specs.FilledInside.{filled_inside}
-use Rattle.dy_read_operators.specs.Grown.{read_grown}
+use Rattle.dy_read_outers.specs.Grown.{read_grown}
 use Rattle.dy_rules.specs.Held.{held_stop}
 use Rattle.dy_read_statements.specs.LoopHeads.{read_head}
 use Rattle.dy_read_statements.specs.Loops.{read_last}
-use Rattle.dy_read_statements.specs.ReadBodies.{read_items}
-use Rattle.dy_read_operators.specs.declared.grown.Grown.{Grown}
+use Rattle.dy_read_arms.specs.ReadBodies.{read_items}
+use Rattle.dy_read_outers.specs.declared.grown.Grown.{Grown}
 use Rattle.dy_read_statements.proofs.Loops.{loop_within}
 use Rattle.dy_read_statements.proofs.loop_nodes.for_within.Goals as goal
 

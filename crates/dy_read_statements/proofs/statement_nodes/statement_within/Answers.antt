@@ -3,9 +3,9 @@ use Rattle.std.proofs.lemmas.Result.{IfOk-weaker}
 use Rattle.dy_rules.specs.SeenForms.{seen_statement}
 use Rattle.dy_rules_depth.specs.Capping.{capped}
 use Rattle.dy_read_statements.specs.FilledInside.{filled_inside}
-use Rattle.dy_read_operators.specs.Grown.{read_grown}
-use Rattle.dy_read_operators.specs.declared.grown.Grown.{Grown}
-use Rattle.dy_read_operators.proofs.Fills.{Made}
+use Rattle.dy_read_outers.specs.Grown.{read_grown}
+use Rattle.dy_read_outers.specs.declared.grown.Grown.{Grown}
+use Rattle.dy_read_outers.proofs.Fills.{Made}
 use Rattle.dy_read_statements.proofs.StatementNodes.{statement_made, statement_beyond}
 use Rattle.dy_read_statements.proofs.statement_nodes.statement_within.Goals as goal
 

@@ -3,9 +3,9 @@ use Rattle.std.proofs.lemmas.Result.{IfOk-weaker}
 use Rattle.dy_rules.specs.Reading.{with_last, tree_of}
 use Rattle.dy_rules_depth.specs.Changes.{changed_argument}
 use Rattle.dy_rules_depth.specs.Capping.{capping}
-use Rattle.dy_read_operators.specs.declared.passed.Passed.{Passed}
+use Rattle.dy_read_outers.specs.declared.passed.Passed.{Passed}
+use Rattle.dy_read_outers.specs.Passed.{read_passed}
 use Rattle.dy_read_operators.specs.Machines.{seen_machine}
-use Rattle.dy_read_operators.specs.Passed.{read_passed}
 use Rattle.dy_read_operators.proofs.PassingSteps.{with_tree_is}
 use Rattle.dy_read_operators.proofs.passing.Value.finish.Goals as goal
 

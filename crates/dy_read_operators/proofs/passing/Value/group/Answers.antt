@@ -1,8 +1,8 @@
 use Rattle.std.proofs.Common.{option_map, ◌∙◌}
 use Rattle.dy_rules.specs.Reading as reading
-use Rattle.dy_read_operators.specs.Grown.{read_grown}
+use Rattle.dy_read_outers.specs.Grown.{read_grown}
+use Rattle.dy_read_outers.specs.Passed.{read_passed}
 use Rattle.dy_read_operators.specs.Machines.{seen_machine}
-use Rattle.dy_read_operators.specs.Passed.{read_passed}
 use Rattle.dy_read_operators.proofs.PassingSteps.{within_is}
 use Rattle.dy_read_operators.proofs.passing.Value.group.Goals as goal
 

@@ -1,0 +1,4 @@
+pub mod ArmParts
+pub mod ArmsBehind
+pub mod Maxima
+pub mod Results

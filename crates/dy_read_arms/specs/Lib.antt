@@ -1,0 +1,5 @@
+pub mod Arms
+pub mod BodyDepths
+pub mod ReadArms
+pub mod ReadBodies
+pub mod ReadItems

@@ -1,0 +1,4 @@
+pub mod ConstantCaps
+pub mod ConstantLists
+pub mod ConstantShapes
+pub mod NextNesting

@@ -1,0 +1,4 @@
+pub mod ConstantCaps
+pub mod ConstantFronts
+pub mod ConstantLists
+pub mod ConstantShapes

@@ -1,0 +1,3 @@
+pub mod Fills
+pub mod GrownNodes
+pub mod Stacks

@@ -1,0 +1,4 @@
+pub mod Grown
+pub mod Outers
+pub mod Passed
+pub mod ReadTrees

@@ -1,7 +1,0 @@
-use Rattle.std.proofs.Common.{rules}
-use Rattle.dy_tree.specs.declared.types.ConstantForm.TheViews.{the_lemmas}
-use Rattle.dy_rules.proofs.HeldTypes.{inner_constants, inner_tail}
-use Rattle.dy_read_types.proofs.constant_nodes.list_of.Goals as goal
-
-pub returns : goal.returns
-returns c = search (rules, the_lemmas, inner_constants, inner_tail)

@@ -1,0 +1,7 @@
+//! The public call of the reader: `parse`.
+#![tactic(auto)]
+
+mod parsed;
+mod parsing;
+
+pub use parsing::parse;
