@@ -1,6 +1,6 @@
 //! Tables of forms, each with the first construct that does not run yet.
 
-use dy_constructs::Construct;
+use dy_construct_parts::construct::Construct;
 
 /// Whole forms.
 pub(crate) static FORMS: [(&str, Option<Construct>); 27] = [

@@ -1,4 +1,3 @@
-pub mod Firsts
 pub mod Rows
 pub mod Unnamed
 pub mod Links

@@ -28,12 +28,12 @@ use Rattle.dy_rules.specs.SeenTypes.{seen_type, seen_required, seen_results, see
 use Rattle.dy_rules.specs.Trees as trees
 use Rattle.dy_rules.specs.Held.{held_test, held_stop, held_body, held_last, held_keys, held_limit}
 use Rattle.dy_rules.proofs.Held.{inner_alternatives, inner_arguments, inner_arms, inner_clauses, inner_default, inner_items, inner_keys, inner_last, inner_limit, inner_loop, inner_methods, inner_some_keys, inner_stop, inner_test}
-use Rattle.dy_constructs.specs.declared.construct.Construct.TheVariants as constructs
-use Rattle.dy_constructs.specs.Table.{first_absent, where_given, where_true}
-use Rattle.dy_constructs.specs.Words.{guarded}
-use Rattle.dy_constructs.specs.Parts.{in_type, in_variable, in_all_required, in_results}
+use Rattle.dy_construct_parts.specs.declared.construct.Construct.TheVariants as constructs
+use Rattle.dy_construct_parts.specs.Table.{first_absent, where_given, where_true}
+use Rattle.dy_construct_parts.specs.Words.{guarded}
+use Rattle.dy_construct_parts.specs.Parts.{in_type, in_variable, in_all_required, in_results}
 use Rattle.dy_constructs.specs.Bodies.{in_tree, in_value, in_test, in_called, in_arguments, in_body, in_item, in_method, in_parameters, in_keys, in_maybe, in_else, in_last, in_clause, in_loop_clause, in_limit, in_stop}
-use Rattle.dy_constructs.specs.declared.construct.Construct.{Construct}
+use Rattle.dy_construct_parts.specs.declared.construct.Construct.{Construct}
 use Rattle.dy_constructs.specs.Forms.{printing, names_format_out, text_first}
 use Rattle.dy_constructs.specs.Held.{held_alternative, held_arm, held_clause, held_key, held_loop_clause, held_method}
 use Rattle.dy_constructs.proofs.Rows.{alternatives_flat, arms_flat, clauses_flat, keys_flat, loop_flat, methods_flat}

@@ -2,8 +2,8 @@
 use Rattle.std.proofs.Common.{◌≡◌, Bool, true, false, List, [], ◌∷◌, refl, sym, ap, subst, ◌∙◌}
 use Rattle.std.specs.Prelude.{Option, Some, None}
 use Rattle.std.specs.Option.{option_or}
-use Rattle.dy_constructs.specs.declared.construct.Construct.{Construct}
-use Rattle.dy_constructs.specs.Table.{has_come, absent, first_absent}
+use Rattle.dy_construct_parts.specs.declared.construct.Construct.{Construct}
+use Rattle.dy_construct_parts.specs.Table.{has_come, absent, first_absent}
 use Rattle.dy_constructs.specs.Forms.{IsAmong, here, behind}
 
 come : (x : Construct) → has_come x ≡ true → absent x ≡ None

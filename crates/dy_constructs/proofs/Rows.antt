@@ -10,16 +10,13 @@ use Rattle.dy_tree.specs.declared.expression.Arm.{Arm}
 use Rattle.dy_tree.specs.declared.expression.BlockClause.{BlockClause}
 use Rattle.dy_tree.specs.declared.expression.ForClause.{ForClause}
 use Rattle.dy_tree.specs.declared.expression.Key.{Key}
-use Rattle.dy_rules.specs.ConstantTrees.{Constant, constants_of}
-use Rattle.dy_rules.specs.Types.{TypeTree, types_of}
 use Rattle.dy_rules.specs.Trees as source
 use Rattle.dy_rules.specs.SeenForms.{seen_tree, seen_argument, seen_item, seen_method, seen_clause, seen_for_clause}
 use Rattle.dy_rules.specs.Held.{held_alternative as alternative_tree, held_arm as arm_tree, held_key as key_tree}
 use Rattle.dy_rules.specs.Trees.{arguments_of, body_of, methods_of, alternatives_of, arms_of, tests_of, block_clauses_of, for_clauses_of, keys_of}
-use Rattle.dy_constructs.specs.declared.construct.Construct.{Construct}
-use Rattle.dy_constructs.specs.declared.construct.Construct.TheVariants as constructs
-use Rattle.dy_constructs.specs.Table.{by_count}
-use Rattle.dy_constructs.specs.Parts.{in_constant, in_constants, in_type, in_types}
+use Rattle.dy_construct_parts.specs.declared.construct.Construct.{Construct}
+use Rattle.dy_construct_parts.specs.declared.construct.Construct.TheVariants as constructs
+use Rattle.dy_construct_parts.specs.Table.{by_count}
 use Rattle.dy_constructs.specs.Bodies.{in_argument, in_arguments, in_each_argument, in_body, in_items, in_methods, in_alternatives, in_arms, in_tests, in_clauses, in_loop, in_key_row}
 use Rattle.dy_constructs.specs.Forms.{count_arguments}
 use Rattle.dy_constructs.specs.Held.{held_value, held_argument, held_item, held_method, held_alternative, held_arm, held_clause, held_loop_clause, held_key}
@@ -59,14 +56,6 @@ loop_flat (first ∷ rest) = ap (λ (others : List Construct). held_loop_clause 
 pub keys_flat : (parts : List Key) → in_key_row (keys_of (map key_tree parts)) ≡ flat_map held_key parts
 keys_flat [] = refl
 keys_flat (first ∷ rest) = ap (λ (others : List Construct). held_key first ++ others) (keys_flat rest)
-
-pub constants_flat : (parts : List Constant) → in_constants (constants_of parts) ≡ flat_map in_constant parts
-constants_flat [] = refl
-constants_flat (first ∷ rest) = ap (λ (others : List Construct). in_constant first ++ others) (constants_flat rest)
-
-pub types_flat : (parts : List TypeTree) → in_types (types_of parts) ≡ flat_map in_type parts
-types_flat [] = refl
-types_flat (first ∷ rest) = ap (λ (others : List Construct). in_type first ++ others) (types_flat rest)
 
 pub each_argument_flat : (parts : List source.Argument) → in_each_argument (arguments_of parts) ≡ flat_map in_argument parts
 each_argument_flat [] = refl

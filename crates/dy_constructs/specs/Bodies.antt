@@ -6,12 +6,12 @@ use Rattle.dy_rules.specs.Trees.{Tree, Arguments, Argument, Body, ItemTree, Alte
 use Rattle.dy_rules.specs.Trees.{Alternative, Otherwise, Arms, Arm, Tests, MaybeTree, MaybeStop}
 use Rattle.dy_rules.specs.Trees.{MaybeLimit, MaybeKeys, Keys, Key, Parameters, LocalMethods}
 use Rattle.dy_rules.specs.Trees.{LocalMethod, BlockClauses, BlockClause, ForClauses, ForClause}
-use Rattle.dy_constructs.specs.declared.construct.Construct.{Construct}
-use Rattle.dy_constructs.specs.declared.construct.Construct.TheVariants as constructs
-use Rattle.dy_constructs.specs.Table.{where_given, where_true}
-use Rattle.dy_constructs.specs.Words.{binary, unary, guarded, is_comparison, next_method}
-use Rattle.dy_constructs.specs.Parts.{of_literal, in_constants, in_tail, in_type, in_variable}
-use Rattle.dy_constructs.specs.Parts.{in_target, in_all_required, in_results}
+use Rattle.dy_construct_parts.specs.declared.construct.Construct.{Construct}
+use Rattle.dy_construct_parts.specs.declared.construct.Construct.TheVariants as constructs
+use Rattle.dy_construct_parts.specs.Table.{where_given, where_true}
+use Rattle.dy_construct_parts.specs.Words.{binary, unary, guarded, is_comparison, next_method}
+use Rattle.dy_construct_parts.specs.Parts.{of_literal, in_constants, in_tail, in_type, in_variable}
+use Rattle.dy_construct_parts.specs.Parts.{in_target, in_all_required, in_results}
 
 -- what stands behind an argument, or behind a part of a body
 abbrev pub more_arguments : Arguments → List Construct

@@ -10,12 +10,12 @@ use Rattle.dy_rules.specs.Trees as source
 use Rattle.dy_rules.specs.Trees.{Tree, Arguments, Argument}
 use Rattle.dy_rules.specs.Forms as forms
 use Rattle.dy_rules.specs.Forms.{FormTree, SlotTree, SlotOption}
-use Rattle.dy_constructs.specs.declared.construct.Construct.{Construct}
-use Rattle.dy_constructs.specs.declared.construct.Construct.TheVariants as constructs
-use Rattle.dy_constructs.specs.Table.{where_true}
-use Rattle.dy_constructs.specs.Words.{adjective, slot_adjective}
-use Rattle.dy_constructs.specs.Directives.{has_directives}
-use Rattle.dy_constructs.specs.Parts.{in_type, in_variable, in_target}
+use Rattle.dy_construct_parts.specs.declared.construct.Construct.{Construct}
+use Rattle.dy_construct_parts.specs.declared.construct.Construct.TheVariants as constructs
+use Rattle.dy_construct_parts.specs.Table.{where_true}
+use Rattle.dy_construct_parts.specs.Words.{adjective, slot_adjective}
+use Rattle.dy_construct_parts.specs.Directives.{has_directives}
+use Rattle.dy_construct_parts.specs.Parts.{in_type, in_variable, in_target}
 use Rattle.dy_constructs.specs.Bodies.{in_value, in_each_argument, in_body, in_parameters, in_maybe}
 
 abbrev pub count_arguments : Arguments → ℕ

@@ -13,7 +13,7 @@ use Rattle.dy_rules.specs.SeenForms.{seen_tree, seen_argument, seen_item, seen_m
 use Rattle.dy_rules.specs.SeenForms.{seen_for_clause}
 use Rattle.dy_rules.specs.Held.{held_alternative as alternative_tree, held_arm as arm_tree}
 use Rattle.dy_rules.specs.Held.{held_key as key_tree}
-use Rattle.dy_constructs.specs.declared.construct.Construct.{Construct}
+use Rattle.dy_construct_parts.specs.declared.construct.Construct.{Construct}
 use Rattle.dy_constructs.specs.Bodies.{in_value, in_argument, in_item, in_method, in_alternative}
 use Rattle.dy_constructs.specs.Bodies.{in_arm, in_clause, in_loop_clause, in_key}
 

@@ -3,15 +3,15 @@
 ghost use Rattle.std.specs.Prelude.{◌≡◌, flat_map};
 ghost use Rattle.dy_rules.specs.SeenForms.{seen_item};
 ghost use Rattle.dy_rules.specs.Held.{held_body, held_last};
-ghost use Rattle.dy_constructs.specs.Table.{first_absent};
+ghost use Rattle.dy_construct_parts.specs.Table.{first_absent};
 ghost use Rattle.dy_constructs.specs.Bodies as bodies;
 ghost use Rattle.dy_constructs.specs.Held.{held_item};
 
-use crate::bindings::in_target;
-use crate::construct::{Construct, absent, by_count};
 use crate::expressions::in_value;
 use crate::parameters::in_methods;
-use crate::types::in_type;
+use dy_construct_parts::bindings::in_target;
+use dy_construct_parts::construct::{Construct, absent, by_count};
+use dy_construct_parts::types::in_type;
 use dy_tree::Item;
 
 #[cycle(trees)]

@@ -3,14 +3,14 @@
 ghost use Rattle.std.specs.Prelude.{◌≡◌, flat_map};
 ghost use Rattle.dy_rules.specs.Held.{held_alternative as alternative_tree, held_arm as arm_tree};
 ghost use Rattle.dy_rules.specs.Held.{held_test};
-ghost use Rattle.dy_constructs.specs.Table.{first_absent};
+ghost use Rattle.dy_construct_parts.specs.Table.{first_absent};
 ghost use Rattle.dy_constructs.specs.Bodies as bodies;
 ghost use Rattle.dy_constructs.specs.Held.{held_alternative, held_arm, held_value};
-ghost use Rattle.dy_constructs.specs.declared.construct.Construct.TheVariants as constructs;
+ghost use Rattle.dy_construct_parts.specs.declared.construct.Construct.TheVariants as constructs;
 
 use crate::bodies::in_body;
-use crate::construct::{Construct, absent};
 use crate::expressions::{in_test, in_value};
+use dy_construct_parts::construct::{Construct, absent};
 use dy_tree::{Alternative, Arm, Expression};
 
 #[cycle(trees)]

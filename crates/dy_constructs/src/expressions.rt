@@ -3,15 +3,15 @@
 ghost use Rattle.std.specs.Prelude.{◌≡◌, flat_map, map};
 ghost use Rattle.dy_rules.specs.Trees.{arguments_of};
 ghost use Rattle.dy_rules.specs.SeenForms.{seen_argument, seen_initial, seen_tree};
-ghost use Rattle.dy_constructs.specs.Table.{first_absent};
+ghost use Rattle.dy_construct_parts.specs.Table.{first_absent};
 ghost use Rattle.dy_constructs.specs.Bodies as bodies;
 ghost use Rattle.dy_constructs.specs.Held.{held_argument};
 
-use crate::constants::{in_constants, in_tail};
-use crate::construct::{Construct, absent, by_count, where_true};
-use crate::parts::in_literal;
 use crate::statements::in_statement;
-use crate::words::{binary, is_comparison, next_method, unary};
+use dy_construct_parts::constants::{in_constants, in_tail};
+use dy_construct_parts::construct::{Construct, absent, by_count, where_true};
+use dy_construct_parts::parts::in_literal;
+use dy_construct_parts::words::{binary, is_comparison, next_method, unary};
 use dy_tree::{Argument, Expression};
 
 #[tactic(auto, using(crate::proofs::Unnamed::statement_no_name))]

@@ -4,19 +4,19 @@ ghost use Rattle.std.specs.Prelude.{◌≡◌, map, flat_map, option_map};
 ghost use Rattle.dy_rules.specs.Trees.{arguments_of};
 ghost use Rattle.dy_rules.specs.SeenForms.{seen_argument, seen_form, seen_option, seen_slot};
 ghost use Rattle.dy_rules.specs.SeenForms.{seen_tree};
-ghost use Rattle.dy_constructs.specs.Table as table;
-ghost use Rattle.dy_constructs.specs.Words as words;
+ghost use Rattle.dy_construct_parts.specs.Table as table;
+ghost use Rattle.dy_construct_parts.specs.Words as words;
 ghost use Rattle.dy_constructs.specs.Forms as spec;
 ghost use Rattle.dy_constructs.specs.Bodies.{in_each_argument};
 
-use crate::bindings::{in_declared, in_target};
 use crate::bodies::in_body;
-use crate::construct::{Construct, absent, where_true};
-use crate::directives::has_directives;
 use crate::expressions::{in_argument, in_maybe, in_value};
 use crate::parameters::in_parameters;
-use crate::types::in_types;
-use crate::words::{adjective, slot_adjective};
+use dy_construct_parts::bindings::{in_declared, in_target};
+use dy_construct_parts::construct::{Construct, absent, where_true};
+use dy_construct_parts::directives::has_directives;
+use dy_construct_parts::types::in_types;
+use dy_construct_parts::words::{adjective, slot_adjective};
 use dy_tree::{Argument, Expression, Form, LiteralForm, Slot, SlotOption, Token};
 
 /// Adjectives of a definition.

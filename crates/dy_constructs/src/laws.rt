@@ -2,8 +2,8 @@
 
 ghost use Rattle.std.specs.Prelude.{◌≡◌, true, false, Some, None};
 ghost use Rattle.dy_rules.specs.Forms.{FormTree};
-ghost use Rattle.dy_constructs.specs.declared.construct.Construct.{Construct};
-ghost use Rattle.dy_constructs.specs.Table.{first_absent, has_come};
+ghost use Rattle.dy_construct_parts.specs.declared.construct.Construct.{Construct};
+ghost use Rattle.dy_construct_parts.specs.Table.{first_absent, has_come};
 ghost use Rattle.dy_constructs.specs.Forms.{Holds, in_form};
 
 /// What holds of the first construct of a form that has not come.

@@ -3,15 +3,15 @@
 ghost use Rattle.std.specs.Prelude.{◌≡◌, flat_map};
 ghost use Rattle.dy_rules.specs.SeenForms.{seen_keys, seen_method, seen_parameters};
 ghost use Rattle.dy_rules.specs.Held.{held_key as key_tree, held_keys};
-ghost use Rattle.dy_constructs.specs.Table.{first_absent};
+ghost use Rattle.dy_construct_parts.specs.Table.{first_absent};
 ghost use Rattle.dy_constructs.specs.Bodies as bodies;
 ghost use Rattle.dy_constructs.specs.Held.{held_key, held_method};
 
-use crate::bindings::{in_all_required, in_results, in_variable};
 use crate::bodies::in_body;
-use crate::construct::{Construct, absent, where_true};
 use crate::expressions::in_maybe;
-use crate::parts::where_given;
+use dy_construct_parts::bindings::{in_all_required, in_results, in_variable};
+use dy_construct_parts::construct::{Construct, absent, where_true};
+use dy_construct_parts::parts::where_given;
 use dy_tree::{Key, Keys, LocalMethod, Parameters};
 
 #[cycle(trees)]

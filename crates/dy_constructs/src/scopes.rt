@@ -3,15 +3,15 @@
 ghost use Rattle.std.specs.Prelude.{◌≡◌, flat_map};
 ghost use Rattle.dy_rules.specs.SeenForms.{seen_clause, seen_for_clause};
 ghost use Rattle.dy_rules.specs.Held.{held_limit, held_stop};
-ghost use Rattle.dy_constructs.specs.Table.{first_absent};
+ghost use Rattle.dy_construct_parts.specs.Table.{first_absent};
 ghost use Rattle.dy_constructs.specs.Bodies as bodies;
 ghost use Rattle.dy_constructs.specs.Held.{held_clause, held_loop_clause};
 
-use crate::bindings::in_variable;
 use crate::bodies::in_body;
-use crate::construct::{Construct, absent};
 use crate::expressions::{in_maybe, in_value};
-use crate::types::in_type;
+use dy_construct_parts::bindings::in_variable;
+use dy_construct_parts::construct::{Construct, absent};
+use dy_construct_parts::types::in_type;
 use dy_tree::{BlockClause, ForClause, Limit, Stop};
 
 /// The clauses of a `block`.

@@ -2,17 +2,17 @@
 
 ghost use Rattle.std.specs.Prelude.{◌≡◌};
 ghost use Rattle.dy_rules.specs.SeenForms.{seen_statement};
-ghost use Rattle.dy_constructs.specs.Table.{first_absent};
+ghost use Rattle.dy_construct_parts.specs.Table.{first_absent};
 ghost use Rattle.dy_constructs.specs.Bodies as bodies;
 
 use crate::bodies::{in_body, in_else, in_last};
 use crate::choices::{in_alternatives, in_arms, in_selector};
-use crate::construct::{Construct, absent};
 use crate::expressions::{in_test, in_value};
 use crate::parameters::in_parameters;
-use crate::parts::where_given;
 use crate::scopes::{in_clauses, in_loop, in_stop};
-use crate::words::guarded;
+use dy_construct_parts::construct::{Construct, absent};
+use dy_construct_parts::parts::where_given;
+use dy_construct_parts::words::guarded;
 use dy_tree::Statement;
 
 #[cycle(trees)]

@@ -1,18 +1,19 @@
 use Rattle.std.proofs.Common.{◌≡◌, ℕ, ◌<◌, Bool, not, length, ◌∷◌, ◌++◌, map, flat_map, option_map, refl, sym, ap, ◌∙◌, rules, arith}
-use Rattle.dy_constructs.specs.declared.construct.Construct.TheVariants as constructs
-use Rattle.dy_constructs.specs.Table.{absent, first_absent, by_count, where_given, where_true}
+use Rattle.dy_construct_parts.specs.declared.construct.Construct.TheVariants as constructs
+use Rattle.dy_construct_parts.specs.Table.{absent, first_absent, by_count, where_given, where_true}
 use Rattle.dy_tree.specs.declared.expression.Argument.TheViews.{the_lemmas}
 use Rattle.dy_rules.specs.ConstantTrees.{tail_of}
 use Rattle.dy_rules.specs.Trees as trees
 use Rattle.dy_rules.specs.SeenTypes.{seen_constant, seen_target, seen_type, seen_variable}
 use Rattle.dy_rules.specs.SeenForms.{seen_tree, seen_statement, seen_argument, seen_item, seen_clause, seen_for_clause, seen_initial, seen_parameters}
 use Rattle.dy_rules.specs.Held.{held_body, held_last, held_limit, held_stop, held_test}
-use Rattle.dy_constructs.specs.Words.{binary, guarded}
-use Rattle.dy_constructs.specs.Parts.{in_constant, in_tail, in_target, in_type, in_variable}
+use Rattle.dy_construct_parts.specs.Words.{binary, guarded}
+use Rattle.dy_construct_parts.specs.Parts.{in_constant, in_tail, in_target, in_type, in_variable}
 use Rattle.dy_constructs.specs.Bodies.{as_function, as_value, as_test, in_tree, in_value, in_test, in_called, in_arguments, in_item, in_body, in_clause, in_else, in_last, in_limit, in_loop_clause, in_maybe, in_parameters, in_stop, in_tests}
 use Rattle.dy_constructs.specs.Held.{held_value, held_argument, held_item, held_method, held_alternative, held_arm, held_clause, held_loop_clause, held_key}
-use Rattle.dy_constructs.proofs.Firsts.{and_part, parts_1, parts_2, parts_3, parts_4, lists_3, lists_5, found_step}
-use Rattle.dy_constructs.proofs.Rows.{arguments_counted, body_counted, constants_flat, tests_flat}
+use Rattle.dy_construct_parts.proofs.Firsts.{and_part, parts_1, parts_2, parts_3, parts_4, lists_3, lists_5, found_step}
+use Rattle.dy_construct_parts.proofs.PartRows.{constants_flat}
+use Rattle.dy_constructs.proofs.Rows.{arguments_counted, body_counted, tests_flat}
 use Rattle.dy_constructs.proofs.Links.{at_call, at_begin, at_method, at_if, at_guarded, at_case, at_select, at_block, at_for, at_local, at_local_method, at_afterwards, at_cleanup, at_exception, at_from, at_keys, at_parameters, held, held_row}
 use Rattle.dy_constructs.proofs.+trees.Goals as goal
 

@@ -1,5 +1,5 @@
 use Rattle.std.proofs.Common.{◌≡◌, ◌+◌, ◌*◌, flat_map, take}
-use Rattle.dy_constructs.specs.Table.{first_absent}
+use Rattle.dy_construct_parts.specs.Table.{first_absent}
 use Rattle.dy_constructs.specs.Held.{held_value, held_argument, held_item, held_method, held_alternative, held_arm, held_clause, held_loop_clause, held_key}
 use Rattle.dy_constructs.proofs.+trees.Given as goal
 

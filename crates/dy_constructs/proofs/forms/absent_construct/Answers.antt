@@ -1,14 +1,14 @@
 use Rattle.std.proofs.Common.{◌≡◌, ◌∷◌, ◌++◌, map, flat_map, refl, sym, ap, ◌∙◌}
-use Rattle.dy_constructs.specs.declared.construct.Construct.TheVariants as constructs
-use Rattle.dy_constructs.specs.Table.{first_absent}
+use Rattle.dy_construct_parts.specs.declared.construct.Construct.TheVariants as constructs
+use Rattle.dy_construct_parts.specs.Table.{first_absent}
 use Rattle.dy_rules.specs.SeenTypes.{seen_target}
 use Rattle.dy_rules.specs.SeenForms.{seen_form, seen_parameters, seen_slot, seen_tree}
 use Rattle.dy_rules.specs.Held.{held_body}
-use Rattle.dy_constructs.specs.Words.{adjective}
-use Rattle.dy_constructs.specs.Parts.{in_target}
+use Rattle.dy_construct_parts.specs.Words.{adjective}
+use Rattle.dy_construct_parts.specs.Parts.{in_target}
 use Rattle.dy_constructs.specs.Bodies.{in_value, in_parameters, in_body}
 use Rattle.dy_constructs.specs.Forms.{in_form, in_slot}
-use Rattle.dy_constructs.proofs.Firsts.{parts_2, parts_3}
+use Rattle.dy_construct_parts.proofs.Firsts.{parts_2, parts_3}
 use Rattle.dy_constructs.proofs.forms.absent_construct.Goals as goal
 
 pub returns-in-Class : goal.returns-in-Class

@@ -1,6 +1,6 @@
 use Rattle.std.proofs.Common.{◌≡◌, flat_map, map, take}
 use Rattle.dy_rules.specs.SeenForms.{seen_option}
-use Rattle.dy_constructs.specs.Table.{first_absent}
+use Rattle.dy_construct_parts.specs.Table.{first_absent}
 use Rattle.dy_constructs.specs.Forms.{in_option}
 use Rattle.dy_constructs.proofs.forms.in_options.Given as goal
 

@@ -1,12 +1,12 @@
 use Rattle.std.proofs.Common.{◌≡◌, ℕ, Bool, not, List, length, map, sym, ap, ◌∙◌}
 use Rattle.dy_rules.specs.Trees.{arguments_of}
 use Rattle.dy_rules.specs.SeenForms.{seen_argument}
-use Rattle.dy_constructs.specs.declared.construct.Construct.TheVariants as constructs
-use Rattle.dy_constructs.specs.Table.{first_absent, where_true}
-use Rattle.dy_constructs.specs.Directives.{has_directives}
+use Rattle.dy_construct_parts.specs.declared.construct.Construct.TheVariants as constructs
+use Rattle.dy_construct_parts.specs.Table.{first_absent, where_true}
+use Rattle.dy_construct_parts.specs.Directives.{has_directives}
 use Rattle.dy_constructs.specs.Bodies.{in_each_argument}
 use Rattle.dy_constructs.specs.Forms.{count_arguments}
-use Rattle.dy_constructs.proofs.Firsts.{parts_2}
+use Rattle.dy_construct_parts.proofs.Firsts.{parts_2}
 use Rattle.dy_constructs.proofs.Rows.{arguments_count}
 use Rattle.dy_constructs.proofs.forms.in_printing.Goals as goal
 

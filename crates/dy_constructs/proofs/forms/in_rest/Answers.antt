@@ -2,9 +2,9 @@ use Rattle.std.proofs.Common.{◌<◌, ◌≤◌, length, List, map, flat_map, s
 use Rattle.std.proofs.lemmas.List.{take_all}
 use Rattle.dy_tree.specs.declared.expression.Argument.{Argument}
 use Rattle.dy_rules.specs.SeenForms.{seen_argument}
-use Rattle.dy_constructs.specs.Table.{first_absent}
+use Rattle.dy_construct_parts.specs.Table.{first_absent}
 use Rattle.dy_constructs.specs.Bodies.{in_argument}
-use Rattle.dy_constructs.proofs.Firsts.{seen_step}
+use Rattle.dy_construct_parts.proofs.Firsts.{seen_step}
 use Rattle.dy_constructs.proofs.Rows.{each_argument_flat}
 use Rattle.dy_constructs.proofs.forms.in_rest.Goals as goal
 

@@ -1,12 +1,12 @@
 use Rattle.std.proofs.Common.{map, flat_map, option_map}
-use Rattle.dy_constructs.specs.declared.construct.Construct.TheVariants as constructs
+use Rattle.dy_construct_parts.specs.declared.construct.Construct.TheVariants as constructs
 use Rattle.dy_rules.specs.SeenTypes.{seen_type}
 use Rattle.dy_rules.specs.SeenForms.{seen_initial, seen_option}
-use Rattle.dy_constructs.specs.Words.{slot_adjective}
-use Rattle.dy_constructs.specs.Parts.{in_declared}
+use Rattle.dy_construct_parts.specs.Words.{slot_adjective}
+use Rattle.dy_construct_parts.specs.Parts.{in_declared}
 use Rattle.dy_constructs.specs.Bodies.{in_maybe}
 use Rattle.dy_constructs.specs.Forms.{in_option}
-use Rattle.dy_constructs.proofs.Firsts.{parts_4}
+use Rattle.dy_construct_parts.proofs.Firsts.{parts_4}
 use Rattle.dy_constructs.proofs.forms.in_slot.Goals as goal
 
 pub returns : goal.returns

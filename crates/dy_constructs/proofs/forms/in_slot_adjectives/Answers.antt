@@ -1,6 +1,6 @@
 use Rattle.std.proofs.Common.{◌<◌, length, arith}
-use Rattle.dy_constructs.specs.Words.{slot_adjective}
-use Rattle.dy_constructs.proofs.Firsts.{single_step}
+use Rattle.dy_construct_parts.specs.Words.{slot_adjective}
+use Rattle.dy_construct_parts.proofs.Firsts.{single_step}
 use Rattle.dy_constructs.proofs.forms.in_slot_adjectives.Goals as goal
 
 pub loop-word-preserved : goal.loop-word-preserved

@@ -1,7 +1,7 @@
 use Rattle.std.proofs.Common.{◌<◌, length, arith}
 use Rattle.dy_rules.specs.SeenForms.{seen_slot}
 use Rattle.dy_constructs.specs.Forms.{in_slot}
-use Rattle.dy_constructs.proofs.Firsts.{seen_step}
+use Rattle.dy_construct_parts.proofs.Firsts.{seen_step}
 use Rattle.dy_constructs.proofs.forms.in_slots.Goals as goal
 
 pub loop-slot-preserved : goal.loop-slot-preserved

@@ -1,0 +1,4 @@
+pub mod Table
+pub mod Words
+pub mod Directives
+pub mod Parts
