@@ -1,8 +1,8 @@
 pub mod Adding
 pub mod Cutting
+pub mod Gate
 pub mod Reading
 mod RowsRead
-pub mod Gate
 pub mod PlainTokens
 pub mod PlainForms
 pub mod Uniqueness

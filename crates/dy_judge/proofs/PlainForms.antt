@@ -1,6 +1,6 @@
 -- No fault of forms and of names says that a file is absent.
-use Rattle.std.proofs.Common.{◌≢◌, ℕ, Bool, true, false, List, [], ◌∷◌, ◌++◌, map, sym, subst, inl, inr}
-use Rattle.std.specs.Prelude.{not, ◌&&◌, ◌||◌, Option, Some, None, Result, Ok, Err, IfErr, All, slice_index_or, if◌then◌else◌}
+use Rattle.std.proofs.Common.{◌≢◌, ℕ, Bool, true, false, List, [], ◌∷◌, ◌++◌, map, sym, subst, ◌∙◌, inl, inr}
+use Rattle.std.specs.Prelude.{not, ◌&&◌, ◌||◌, Option, Result, Ok, Err, IfErr, All, slice_index_or, if◌then◌else◌}
 use Rattle.std.specs.Str.{bytes_eq}
 use Rattle.std.proofs.lemmas.Bool.{cond_both}
 use Rattle.std.proofs.lemmas.List.Elements.{All-nil, All-cons, All-append, All-map, All-head, All-tail}
@@ -10,29 +10,24 @@ use Rattle.dy_base.specs.declared.fault.Refusal.{Refusal}
 use Rattle.dy_base.specs.declared.fault.Refusal.TheVariants as refusals
 use Rattle.dy_lexer.specs.declared.source.Source.{Source}
 use Rattle.dy_runnable.specs.declared.program.Program.{Program}
+use Rattle.dy_rules.specs.Forms.{FormTree}
 use Rattle.dy_rules.specs.Parsing.{Parsed, accepted as told_form, too_deep, no_form, parsed}
-use Rattle.dy_surface.specs.Forms.{draft_of}
-use Rattle.dy_term.specs.Rows.{CoreDraft}
-use Rattle.dy_constructs.specs.declared.construct.Construct.{Construct}
-use Rattle.dy_constructs.specs.Table.{first_absent}
-use Rattle.dy_constructs.specs.Forms.{in_form}
 use Rattle.dy_tree.specs.declared.token.Token.{Token}
 use Rattle.dy_tree.specs.declared.words.Words.{Words}
 use Rattle.dy_tree.specs.Fragments.{SeenFragment}
 use Rattle.dy_subset.specs.declared.names.Finding.{Finding}
 use Rattle.dy_subset.specs.declared.names.Finding.TheVariants.{Fine, Unbound, Unfit}
 use Rattle.dy_subset.specs.Forms.{TopTree, print, method, Reading, fits, faulty, Row}
-use Rattle.dy_subset.specs.Cores.{top_in}
 use Rattle.dy_subset.specs.Operators.{is_exported}
 use Rattle.dy_subset.specs.Names.{Use, is_parameter, is_among, is_reserved, unfit_if, standing, standing_of, parameter_of, top_uses, top_findings, reading_findings, findings_from, findings, method_names, name_of, is_unfit, is_unbound, first_or, told}
 use Rattle.dy_judge.specs.declared.lexing.Lexed.{Lexed}
 use Rattle.dy_judge.specs.declared.lexing.Lexed.TheVariants.{Read, Faulty}
 use Rattle.dy_judge.specs.Words.{words}
 use Rattle.dy_judge.specs.Pieces.{Piece, pieces_of}
-use Rattle.dy_judge.specs.Forms.{reading_of, gated, told_reading, row_of}
+use Rattle.dy_judge.specs.Forms.{FormReads, ToldReads, AreRows}
 use Rattle.dy_judge.specs.Files.{Lexes, is_header}
 use Rattle.dy_judge.specs.Library.{is_library}
-use Rattle.dy_judge.specs.Verdicts.{Verdict, refused, accepted, found_verdict, forms_verdict, JudgesTokens, JudgesBoth, JudgesFiles, IsVerdict, Judged, IsPlain}
+use Rattle.dy_judge.specs.Verdicts.{Verdict, refused, accepted, found_verdict, JudgesForms, JudgesTokens, JudgesBoth, JudgesFiles, IsVerdict, Judged, IsPlain}
 use Rattle.dy_judge.proofs.PlainTokens.{IsPresent, source_present, groups_present}
 
 -- what is found tells no absent file
@@ -67,29 +62,29 @@ abbrev IsRead : Reading → Type 0
 IsRead (fits top) = Unit {0}
 IsRead (faulty kind) = kind ≢ NoFile
 
+syntax_present : Syntax ≢ NoFile
+syntax_present = λ e. cc
+
 reading_tells : (known : Words) (methods earlier : List (List ℕ)) (reading : Reading) (place : Place) → IsRead reading → All Tells (reading_findings known methods earlier reading place)
 reading_tells known methods earlier (fits top) place read = top_tells known methods earlier top place
 reading_tells known methods earlier (faulty kind) place read = All-cons Tells (Unfit kind place) [] read (All-nil Tells)
 
-option_read : (top : Option TopTree) → IsRead (reading_of top)
-option_read None = λ e. cc
-option_read (Some top) = tt
+form_read : (form : FormTree) (reading : Reading) → FormReads form reading → IsRead reading
+form_read form (fits top) reads = tt
+form_read form (faulty kind) (late, is) = λ e. syntax_present (sym is ∙ e)
 
-gated_read : (construct : Option Construct) (draft : CoreDraft) → IsRead (gated construct draft)
-gated_read (Some construct) draft = λ e. cc
-gated_read None draft = option_read (top_in draft)
+told_read : (told : Parsed) (reading : Reading) → ToldReads told reading → IsRead reading
+told_read no_form reading reads = subst IsRead (sym reads) syntax_present
+told_read too_deep reading reads = subst IsRead (sym reads) (λ e. cc)
+told_read (told_form form) reading reads = form_read form reading reads
 
-told_read : (told : Parsed) → IsRead (told_reading told)
-told_read no_form = λ e. cc
-told_read too_deep = λ e. cc
-told_read (told_form form) = gated_read (first_absent (in_form form)) (draft_of form)
-
-rows_tell : (known : Words) (methods earlier : List (List ℕ)) (pieces : List Piece) → All Tells (findings_from known methods earlier (map row_of pieces))
-rows_tell known methods earlier [] = All-nil Tells
-rows_tell known methods earlier (piece ∷ pieces) =
-    let row : Row = row_of piece in
-    All-append Tells (reading_findings known methods earlier row.reading row.place) (findings_from known methods (name_of row ++ earlier) (map row_of pieces))
-    (reading_tells known methods earlier row.reading row.place (told_read (parsed piece.fragments))) (rows_tell known methods (name_of row ++ earlier) pieces)
+rows_tell : (known : Words) (methods earlier : List (List ℕ)) (pieces : List Piece) (rows : List Row) → AreRows pieces rows → All Tells (findings_from known methods earlier rows)
+rows_tell known methods earlier [] [] all = All-nil Tells
+rows_tell known methods earlier [] (row ∷ rows) all = absurd all
+rows_tell known methods earlier (piece ∷ pieces) [] all = absurd all
+rows_tell known methods earlier (piece ∷ pieces) (row ∷ rows) (one, more) =
+    All-append Tells (reading_findings known methods earlier row.reading row.place) (findings_from known methods (name_of row ++ earlier) rows)
+    (reading_tells known methods earlier row.reading row.place (told_read (parsed piece.fragments) row.reading one.1)) (rows_tell known methods (name_of row ++ earlier) pieces rows more)
 
 first_tells : (passes : Finding → Bool) (found : List Finding) (other : Finding) → All Tells found → Tells other → Tells (first_or passes found other)
 first_tells passes [] other all one = one
@@ -110,14 +105,13 @@ found_open library rows (Unbound token) tells = λ e. cc
 found_open library rows (Unfit kind place) tells = tells
 
 -- the verdict on the forms of a file
-pub forms_open : (library : List ℕ) (known : Words) (trees : List SeenFragment) → IsOpen (forms_verdict library known trees)
-forms_open library known trees =
-    let rows = map row_of (pieces_of trees) in
-    found_open library rows (told (findings known rows)) (told_tells (findings known rows) (rows_tell known (method_names rows) [] (pieces_of trees)))
+pub forms_open : (library : List ℕ) (known : Words) (trees : List SeenFragment) (verdict : Verdict) → JudgesForms library known trees verdict → IsOpen verdict
+forms_open library known trees verdict (rows, all, is) =
+    subst IsOpen (sym is) (found_open library rows (told (findings known rows)) (told_tells (findings known rows) (rows_tell known (method_names rows) [] (pieces_of trees) rows all)))
 
 tokens_open : (library : List ℕ) (tokens : List Token) (verdict : Verdict) → JudgesTokens library tokens verdict → IsOpen verdict
 tokens_open library tokens verdict (inl (fault, first, is)) = subst IsOpen (sym is) (groups_present 200 words tokens fault first)
-tokens_open library tokens verdict (inr (trees, grouped, deep, is)) = subst IsOpen (sym is) (forms_open library words trees)
+tokens_open library tokens verdict (inr (trees, grouped, deep, judged)) = forms_open library words trees verdict judged
 
 both_open : (is_first same : Bool) (library : List ℕ) (first second : Source) (verdict : Verdict) → JudgesBoth is_first same library first second verdict → IsOpen verdict
 both_open false same library first second verdict is = subst IsOpen (sym is) (λ e. cc)

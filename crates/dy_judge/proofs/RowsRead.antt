@@ -1,20 +1,25 @@
 -- The rows of pieces that are read one after the other.
-use Rattle.std.proofs.Common.{◌≡◌, List, [], ◌∷◌, ◌++◌, map, sym, ap, ◌∙◌}
+use Rattle.std.proofs.Common.{◌≡◌, List, [], ◌∷◌, ◌++◌, map, sym, ap, subst, ◌∙◌}
 use Rattle.std.proofs.lemmas.List.{map-append}
-use Rattle.dy_subset.specs.declared.row.Row.{Row}
-use Rattle.dy_subset.specs.Forms.{seen_row}
+use Rattle.dy_subset.specs.declared.row.Row.{Row as HeldRow}
+use Rattle.dy_subset.specs.Forms.{Row, seen_row}
 use Rattle.dy_judge.specs.declared.pieces.Piece.{Piece as Held}
-use Rattle.dy_judge.specs.Pieces.{seen_piece}
-use Rattle.dy_judge.specs.Forms.{row_of}
+use Rattle.dy_judge.specs.Pieces.{Piece, seen_piece}
+use Rattle.dy_judge.specs.Forms.{IsRow, AreRows}
+
+behind : (pieces : List Piece) (piece : Piece) (rows : List Row) (row : Row) → AreRows pieces rows → IsRow piece row → AreRows (pieces ++ piece ∷ []) (rows ++ row ∷ [])
+behind [] piece [] row all one = (one, tt)
+behind [] piece (other ∷ rows) row all one = absurd all
+behind (first ∷ pieces) piece [] row all one = absurd all
+behind (first ∷ pieces) piece (other ∷ rows) row (same, more) one = (same, behind pieces piece rows row more one)
 
 -- one row more
-pub row_more : (done : List Held) (held : Held) (rows more : List Row) (row : Row)
-    → more ≡ rows ++ row ∷ [] → seen_row row ≡ row_of (seen_piece held)
-    → map seen_row rows ≡ map row_of (map seen_piece done)
-    → map seen_row more ≡ map row_of (map seen_piece (done ++ held ∷ []))
-row_more done held rows more row is read before =
-    ap (map seen_row) is
-    ∙ map-append seen_row rows (row ∷ [])
-    ∙ (λ i. before i ++ read i ∷ [])
-    ∙ sym (map-append row_of (map seen_piece done) (seen_piece held ∷ []))
-    ∙ sym (ap (map row_of) (map-append seen_piece done (held ∷ [])))
+pub row_more : (done : List Held) (held : Held) (rows more : List HeldRow) (row : HeldRow)
+    → more ≡ rows ++ row ∷ [] → IsRow (seen_piece held) (seen_row row)
+    → AreRows (map seen_piece done) (map seen_row rows)
+    → AreRows (map seen_piece (done ++ held ∷ [])) (map seen_row more)
+row_more done held rows more row is one before =
+    let pieces : map seen_piece (done ++ held ∷ []) ≡ map seen_piece done ++ seen_piece held ∷ [] = map-append seen_piece done (held ∷ []) in
+    let found : map seen_row more ≡ map seen_row rows ++ seen_row row ∷ [] = ap (map seen_row) is ∙ map-append seen_row rows (row ∷ []) in
+    subst (λ (all : List Piece). AreRows all (map seen_row more)) (sym pieces)
+    (subst (AreRows (map seen_piece done ++ seen_piece held ∷ [])) (sym found) (behind (map seen_piece done) (seen_piece held) (map seen_row rows) (seen_row row) before one))

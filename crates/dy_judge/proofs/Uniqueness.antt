@@ -9,12 +9,15 @@ use Rattle.dy_lexer.proofs.OneReading.{one_source, one_first, source_or_fault}
 use Rattle.dy_fragment.specs.Steps.{Grouping, group_of}
 use Rattle.dy_fragment.proofs.Verdicts.{given_all, unique}
 use Rattle.dy_fragment.proofs.Telling.{determined}
+use Rattle.dy_tree.specs.declared.words.Words.{Words}
 use Rattle.dy_judge.specs.declared.lexing.Lexed.{Lexed}
 use Rattle.dy_judge.specs.declared.lexing.Lexed.TheVariants.{Read, Faulty}
 use Rattle.dy_judge.specs.Words.{words}
+use Rattle.dy_judge.specs.Pieces.{pieces_of}
 use Rattle.dy_judge.specs.Files.{Lexes}
 use Rattle.dy_judge.specs.Library.{is_library}
-use Rattle.dy_judge.specs.Verdicts.{Verdict, refused, forms_verdict, JudgesTokens, JudgesBoth, JudgesFiles, IsVerdict}
+use Rattle.dy_judge.specs.Verdicts.{Verdict, refused, row_verdict, JudgesForms, JudgesTokens, JudgesBoth, JudgesFiles, IsVerdict}
+use Rattle.dy_judge.proofs.Gate.{rows_one}
 
 -- a file is lexed in one way
 lexed_one : (file : ℕ) (text : List ℕ) (a b : Lexed) → Lexes file text a → Lexes file text b → a ≡ b
@@ -30,12 +33,16 @@ one_fault found f g e h = cc
 apart : (found : Grouping) (trees : List SeenFragment) (f : Fault) → found ≡ Ok trees → found ≡ Err f → ⊥
 apart found trees f e h = absurd cc
 
+forms_one : (library : List ℕ) (known : Words) (trees : List SeenFragment) (a b : Verdict) → JudgesForms library known trees a → JudgesForms library known trees b → a ≡ b
+forms_one library known trees a b (rows, all, is) (others, every, also) = is ∙ ap (row_verdict library known) (rows_one (pieces_of trees) rows others all every) ∙ sym also
+
 tokens_one : (library : List ℕ) (tokens : List Token) (a b : Verdict) → JudgesTokens library tokens a → JudgesTokens library tokens b → a ≡ b
 tokens_one library tokens a b (inl (f, first, is)) (inl (g, second, also)) =
     is ∙ ap refused (one_fault (group_of words tokens) f g (determined 200 words tokens f first) (determined 200 words tokens g second)) ∙ sym also
 tokens_one library tokens a b (inl (f, first, is)) (inr (trees, grouped, deep, also)) = absurd (apart (group_of words tokens) trees f (given_all 200 words tokens trees grouped deep) (determined 200 words tokens f first))
 tokens_one library tokens a b (inr (trees, grouped, deep, is)) (inl (f, first, also)) = absurd (apart (group_of words tokens) trees f (given_all 200 words tokens trees grouped deep) (determined 200 words tokens f first))
-tokens_one library tokens a b (inr (trees, grouped, deep, is)) (inr (others, grouping, low, also)) = is ∙ ap (forms_verdict library words) (unique words tokens trees others grouped grouping) ∙ sym also
+tokens_one library tokens a b (inr (trees, grouped, deep, judged)) (inr (others, grouping, low, also)) =
+    forms_one library words trees a b judged (subst (λ (found : List SeenFragment). JudgesForms library words found b) (sym (unique words tokens trees others grouped grouping)) also)
 
 both_one : (is_first same : Bool) (library : List ℕ) (first second : Source) (a b : Verdict) → JudgesBoth is_first same library first second a → JudgesBoth is_first same library first second b → a ≡ b
 both_one false same library first second a b e f = e ∙ sym f

@@ -1,45 +1,52 @@
 -- What the forms of a file are read as.
-use Rattle.std.specs.Prelude.{◌≡◌, List, Option, Some, None}
+use Rattle.std.specs.Prelude.{◌≡◌, false, List, [], ◌∷◌, Some}
 use Rattle.dy_base.specs.declared.kind.Kind.TheVariants.{Syntax, TooDeep}
 use Rattle.dy_base.specs.declared.fault.Refusal.{Refusal}
 use Rattle.dy_base.specs.declared.fault.Refusal.TheVariants as refusals
 use Rattle.dy_tree.specs.Fragments.{SeenFragment}
 use Rattle.dy_rules.specs.Forms.{FormTree}
 use Rattle.dy_rules.specs.Parsing.{Parsed, accepted, too_deep, no_form, parsed}
-use Rattle.dy_constructs.specs.declared.construct.Construct.{Construct}
-use Rattle.dy_constructs.specs.Table.{first_absent}
-use Rattle.dy_constructs.specs.Forms.{in_form}
-use Rattle.dy_term.specs.Rows.{CoreDraft}
+use Rattle.dy_construct_parts.specs.declared.construct.Construct.{Construct}
+use Rattle.dy_construct_parts.specs.Table.{has_come}
+use Rattle.dy_constructs.specs.Forms.{Holds}
 use Rattle.dy_surface.specs.Forms.{draft_of}
-use Rattle.dy_subset.specs.Forms.{TopTree, Reading, fits, faulty, Row}
+use Rattle.dy_subset.specs.Forms.{Reading, fits, faulty, Row}
 use Rattle.dy_subset.specs.Cores.{top_in}
+use Rattle.dy_core_laws.specs.Runs.{HasCome}
 use Rattle.dy_judge.specs.Pieces.{Piece, place_of}
 
--- what runs of a form, or that it does not run yet
-abbrev pub reading_of : Option TopTree → Reading
-reading_of (Some top) = fits top
-reading_of None = faulty Syntax
+-- It holds a construct that has not come.
+abbrev pub IsLate : FormTree → Type 0
+IsLate form = (construct : Construct) × Holds construct form × (has_come construct ≡ false)
 
--- A form that holds a construct that has not come is refused; what another runs as its core says.
-abbrev pub gated : Option Construct → CoreDraft → Reading
-gated (Some construct) draft = faulty Syntax
-gated None draft = reading_of (top_in draft)
-
-abbrev pub form_reading : FormTree → Reading
-form_reading form = gated (first_absent (in_form form)) (draft_of form)
+-- A form of which every construct has come runs as its core says; one that holds another is
+-- refused.
+abbrev pub FormReads : FormTree → Reading → Type 0
+FormReads form (fits top) = HasCome form × (top_in (draft_of form) ≡ Some top)
+FormReads form (faulty kind) = IsLate form × (kind ≡ Syntax)
 
 -- by what is told of the fragments: no form, one that is too deep, or a form
-abbrev pub told_reading : Parsed → Reading
-told_reading no_form = faulty Syntax
-told_reading too_deep = faulty TooDeep
-told_reading (accepted form) = form_reading form
+abbrev pub ToldReads : Parsed → Reading → Type 0
+ToldReads no_form reading = reading ≡ faulty Syntax
+ToldReads too_deep reading = reading ≡ faulty TooDeep
+ToldReads (accepted form) reading = FormReads form reading
 
 -- what the fragments of a form are read as
-abbrev pub reading_in : List SeenFragment → Reading
-reading_in fragments = told_reading (parsed fragments)
+abbrev pub Reads : List SeenFragment → Reading → Type 0
+Reads fragments reading = ToldReads (parsed fragments) reading
 
-abbrev pub row_of : Piece → Row
-row_of piece = record { place = place_of piece; reading = reading_in piece.fragments }
+abbrev pub IsRow : Piece → Row → Type 0
+IsRow piece row = (row.place ≡ place_of piece) × Reads piece.fragments row.reading
+
+-- a row for each piece, in order
+abbrev pub AreRows : List Piece → List Row → Type 0
+AreRows [] [] = Unit {0}
+AreRows (piece ∷ pieces) (row ∷ rows) = IsRow piece row × AreRows pieces rows
+AreRows _ _ = ⊥
+
+-- a form that fragments stand for, within the limit of depth
+abbrev pub IsParsed : FormTree → Type 0
+IsParsed form = (fragments : List SeenFragment) × (parsed fragments ≡ accepted form)
 
 -- a form that was refused so is read as this
 abbrev pub Tells : Refusal → Reading → Type 0

@@ -3,7 +3,7 @@ use Rattle.std.specs.Prelude.{List, [], ◌∷◌, Option, Some, None, if◌then
 use Rattle.dy_base.specs.declared.fault.Place.{Place}
 use Rattle.dy_tree.specs.Fragments.{SeenFragment, one, group, seen_fragments}
 use Rattle.dy_fragment.specs.Words.{is_semicolon}
-use Rattle.dy_read_forms.specs.Answers.{first_place}
+use Rattle.dy_reader.specs.Answers.{first_place}
 use Rattle.dy_judge.specs.declared.pieces.Piece.{Piece as Held}
 
 -- what stands in front of a semicolon, and where that stands; the last piece may lack it

@@ -1,5 +1,5 @@
 -- What two source files come to (own in the order of faults).
-use Rattle.std.specs.Prelude.{◌≡◌, ◌≢◌, ◌≤◌, ◌⊎◌, ℕ, Bool, true, false, List, [], ◌∷◌, map, Some}
+use Rattle.std.specs.Prelude.{◌≡◌, ◌≢◌, ◌≤◌, ◌⊎◌, ℕ, Bool, true, false, List, [], ◌∷◌, Some}
 use Rattle.std.specs.Prelude.{Result, Ok, Err}
 use Rattle.std.specs.Str.{bytes_eq}
 use Rattle.dy_base.specs.declared.kind.Kind.{Kind}
@@ -25,7 +25,7 @@ use Rattle.dy_judge.specs.declared.lexing.Lexed.{Lexed}
 use Rattle.dy_judge.specs.declared.lexing.Lexed.TheVariants.{Read, Faulty}
 use Rattle.dy_judge.specs.Words.{words}
 use Rattle.dy_judge.specs.Pieces.{pieces_of}
-use Rattle.dy_judge.specs.Forms.{row_of}
+use Rattle.dy_judge.specs.Forms.{AreRows}
 use Rattle.dy_judge.specs.Files.{Lexes, first_fault}
 use Rattle.dy_judge.specs.Library.{is_library}
 
@@ -54,15 +54,16 @@ found_verdict library rows (found.Unfit kind place) = refused (fault_with kind p
 abbrev pub row_verdict : List ℕ → Words → List Row → Verdict
 row_verdict library known rows = found_verdict library rows (told (findings known rows))
 
-abbrev pub forms_verdict : List ℕ → Words → List SeenFragment → Verdict
-forms_verdict library known trees = row_verdict library known (map row_of (pieces_of trees))
+abbrev pub JudgesForms : List ℕ → Words → List SeenFragment → Verdict → Type 0
+JudgesForms library known trees verdict =
+    (rows : List Row) × AreRows (pieces_of trees) rows × (verdict ≡ row_verdict library known rows)
 
 -- tokens are refused with the first fault of their groups, or their trees are judged
 abbrev pub JudgesTokens : List ℕ → List Token → Verdict → Type 0
 JudgesTokens library tokens verdict =
     ((fault : Fault) × Refused 200 words tokens fault × (verdict ≡ refused fault))
     ⊎ ((trees : List SeenFragment) × Grouped words tokens trees × (depth trees ≤ 200)
-    × (verdict ≡ forms_verdict library words trees))
+    × JudgesForms library words trees verdict)
 
 -- where the first token of a file stands, or its begin where it has none
 abbrev pub first_place : ℕ → List Token → Place

@@ -5,7 +5,7 @@ ghost use Rattle.dy_base.specs.declared.kind.Kind.TheVariants.{Unbound};
 ghost use Rattle.dy_tree.specs.Fragments.{seen_fragments};
 ghost use Rattle.dy_subset.specs.Forms.{seen_row};
 ghost use Rattle.dy_judge.specs.Verdicts.{refused, syntax_at, fault_with, first_place, row_verdict};
-ghost use Rattle.dy_judge.specs.Verdicts.{forms_verdict, Judged, JudgesTokens, JudgesSources};
+ghost use Rattle.dy_judge.specs.Verdicts.{JudgesForms, Judged, JudgesTokens, JudgesSources};
 ghost use Rattle.dy_judge.specs.Verdicts.{JudgesFiles, IsVerdict, IsPlain};
 
 use crate::forms::rows_of;
@@ -80,8 +80,7 @@ fn judge_forms(
     words: &Words,
     fragments: Vec<Fragment>,
 ) -> Result<Program, Refusal>
-    ensures { Judged (λ verdict. verdict
-        ≡ forms_verdict library.now words.now (seen_fragments fragments.items)) result }
+    ensures { Judged (JudgesForms library.now words.now (seen_fragments fragments.items)) result }
 {
     let pieces = pieces_of(alloc, fragments)?;
     let rows = rows_of(alloc, pieces)?;

@@ -3,7 +3,7 @@
 ghost use Rattle.std.specs.Prelude.{◌≡◌, IfOk, map};
 ghost use Rattle.dy_tree.specs.Fragments.{seen_fragment, seen_fragments};
 ghost use Rattle.dy_fragment.specs.Words.{is_semicolon};
-ghost use Rattle.dy_read_forms.specs.Answers as parser;
+ghost use Rattle.dy_reader.specs.Answers as parser;
 ghost use Rattle.dy_judge.specs.Pieces.{semicolon_of, seen_piece, place_of, pieces_of};
 
 use dy_base::Place;

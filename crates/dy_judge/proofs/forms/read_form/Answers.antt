@@ -1,6 +1,9 @@
 use Rattle.dy_tree.specs.Fragments.{seen_fragments}
-use Rattle.dy_judge.proofs.Reading.{form_read, refusal_read}
+use Rattle.dy_judge.proofs.Reading.{form_parsed, form_read, refusal_read}
 use Rattle.dy_judge.proofs.forms.read_form.Goals as goal
+
+pub form_reading-requires : goal.form_reading-requires
+form_reading-requires c = form_parsed (seen_fragments c.args.fragments.now.items) c.in-Ok.form c.in-Ok.ensures.accepts
 
 pub returns-in-Ok : goal.returns-in-Ok
 returns-in-Ok c = form_read (seen_fragments c.args.fragments.now.items) c.in-Ok.form c.form_reading.result c.in-Ok.ensures.accepts c.form_reading.ensures
