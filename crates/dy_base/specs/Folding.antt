@@ -1,5 +1,6 @@
 -- Names ignore the case of ASCII letters (DRM 2, "Names").
-use Rattle.std.specs.Prelude.{◌≡◌, ℕ, ◌+◌, ◌≤◌, ◌⊎◌, ◌&&◌, nat_le, if◌then◌else◌, List, [], ◌∷◌, map}
+use Rattle.std.specs.Prelude.{◌≡◌, ℕ, ◌+◌, ◌≤◌, ◌⊎◌, ◌&&◌, nat_le, if◌then◌else◌, List, [], ◌∷◌}
+use Rattle.std.specs.Prelude.{map}
 
 -- a capital letter as the small one, and every other byte as it is
 abbrev pub folded_byte : ℕ → ℕ

@@ -1,7 +1,17 @@
 -- The number and the name of each kind of refusal (own).
 use Rattle.std.specs.Prelude.{ℕ, List, codes}
 use Rattle.dy_base.specs.declared.kind.Kind.{Kind}
-use Rattle.dy_base.specs.declared.kind.Kind.TheVariants.{BadByte, OpenComment, OpenString, BadLiteral, WideInteger, BadHeader, Unbalanced, TooDeep, NoRule, TooManyExpansions, BadMacro, UnknownLibrary, UnknownModule, NameClash, NotExported, Cycle, Syntax, Unbound, Redefined, NotAssignable, NotAType, Inconsistent, TwoPrimaries, SlotClash, CyclicClass, NotCongruent, DuplicateMethod, SealedClass, SealedGeneric, SealedDomain, Limit, BadImage, BadCode, Stale, NoFile}
+use Rattle.dy_base.specs.declared.kind.Kind.TheVariants.{BadByte, OpenComment, OpenString}
+use Rattle.dy_base.specs.declared.kind.Kind.TheVariants.{BadLiteral, WideInteger, BadHeader}
+use Rattle.dy_base.specs.declared.kind.Kind.TheVariants.{Unbalanced, TooDeep, NoRule}
+use Rattle.dy_base.specs.declared.kind.Kind.TheVariants.{TooManyExpansions, BadMacro}
+use Rattle.dy_base.specs.declared.kind.Kind.TheVariants.{UnknownLibrary, UnknownModule, NameClash}
+use Rattle.dy_base.specs.declared.kind.Kind.TheVariants.{NotExported, Cycle, Syntax, Unbound}
+use Rattle.dy_base.specs.declared.kind.Kind.TheVariants.{Redefined, NotAssignable, NotAType}
+use Rattle.dy_base.specs.declared.kind.Kind.TheVariants.{Inconsistent, TwoPrimaries, SlotClash}
+use Rattle.dy_base.specs.declared.kind.Kind.TheVariants.{CyclicClass, NotCongruent, DuplicateMethod}
+use Rattle.dy_base.specs.declared.kind.Kind.TheVariants.{SealedClass, SealedGeneric, SealedDomain}
+use Rattle.dy_base.specs.declared.kind.Kind.TheVariants.{Limit, BadImage, BadCode, Stale, NoFile}
 
 abbrev pub code_of : Kind → ℕ
 code_of BadByte = 1

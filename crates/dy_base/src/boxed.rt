@@ -6,8 +6,8 @@ use std::alloc::{AllocError, Global};
 use std::marker::Model;
 use std::ops::Deref;
 
-/// A value in memory of its own. It is a `Box` whose contracts speak of the value alone, so that a tree
-/// of them and of lists equals another one exactly where both say the same.
+/// A value in memory of its own. It is a `Box` whose contracts speak of the value alone, so that a
+/// tree of them and of lists equals another one exactly where both say the same.
 #[derive(Debug, Drop)]
 pub struct Boxed<T> {
     inner: Box<T>,

@@ -1,6 +1,7 @@
 //! Names in the order in which they came.
 
-ghost use Rattle.std.specs.Prelude.{◌≡◌, [], length, position, slice_get, IsSome, Some, IsOk, IfOk, OnOk, OnErr, map as list_map};
+ghost use Rattle.std.specs.Prelude.{◌≡◌, [], length, position, slice_get, IsSome, Some, IsOk, IfOk};
+ghost use Rattle.std.specs.Prelude.{OnOk, OnErr, map as list_map};
 ghost use Rattle.std.specs.Option.{option_copied, option_map};
 ghost use Rattle.std.specs.FinMap as map;
 ghost use Rattle.std.specs.List.{range_with_len, IsDistinct};
@@ -93,12 +94,14 @@ impl<V> NameList<V> {
 
     /// The places of all names, in the order of the names' bytes. The list stays as it is.
     pub fn sorted_places(&self, alloc: Global) -> Result<Vec<usize>, AllocError>
-        ensures { IfOk result (λ places. list_map (slice_get self.now) places.items ≡ list_map Some (map.entries (table_of self.now))) }
+        ensures { IfOk result (λ places. list_map (slice_get self.now) places.items
+            ≡ list_map Some (map.entries (table_of self.now))) }
     {
         let mut places = places_to(alloc, self.len())?;
         places.sort_by(
             |a: &usize, b: &usize| -> Ordering
-                ensures { result ≡ by_bytes (name_at self.entry.now a.now) (name_at self.entry.now b.now) }
+                ensures { result ≡ by_bytes (name_at self.entry.now a.now)
+                    (name_at self.entry.now b.now) }
             { self.name_or_empty(*a).cmp(self.name_or_empty(*b)) },
         )?;
         Ok(places)
@@ -110,7 +113,8 @@ impl<V: Drop> NameList<V> {
     /// keeps its place, takes no memory and does not fail. Where memory is short, the list stays.
     pub fn set(&mut self, alloc: Global, name: &[u8], value: V) -> Result<(), AllocError>
         ensures order { OnOk result (self.new ≡ insert_entry bytes_eq self.old name.now value) }
-        ensures table { OnOk result (table_of self.new ≡ map.insert (table_of self.old) name.now value) }
+        ensures table { OnOk result
+            (table_of self.new ≡ map.insert (table_of self.old) name.now value) }
         ensures there { IsSome (map.get (table_of self.old) name.now) → IsOk result }
         ensures err { OnErr result (self.new ≡ self.old) }
     {

@@ -46,7 +46,8 @@ fn lower_case(alloc: Global, bytes: &[u8]) -> Result<Vec<u8>, AllocError>
 /// case of ASCII letters only (DRM 2, "Names").
 pub fn fold(alloc: Global, bytes: &[u8]) -> Result<Name, AllocError>
     ensures folded { IfOk result (λ name. name ≡ folded bytes.now) }
-    ensures same { (other : List ℕ) → (folded bytes.now ≡ folded other) ↔ SameButForCase bytes.now other }
+    ensures same { (other : List ℕ) → (folded bytes.now ≡ folded other)
+        ↔ SameButForCase bytes.now other }
 {
     Ok(Name {
         bytes: lower_case(alloc, bytes)?,

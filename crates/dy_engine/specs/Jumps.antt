@@ -17,7 +17,8 @@ open_code (pair ∷ pairs) = open_branch (term_code pair.0) (term_code pair.1) +
 abbrev pub ends_of : ℕ → List (Core × Core) → List ℕ
 ends_of place [] = []
 ends_of place (pair ∷ pairs) =
-    (place + (length (term_code pair.0) + 1 + length (term_code pair.1))) ∷ ends_of (place + length (open_branch (term_code pair.0) (term_code pair.1))) pairs
+    (place + (length (term_code pair.0) + 1 + length (term_code pair.1)))
+    ∷ ends_of (place + length (open_branch (term_code pair.0) (term_code pair.1))) pairs
 
 -- the jumps at these places are written, where the code ends at a place
 abbrev pub closed : ℕ → List ℕ → List Instr → List Instr

@@ -27,7 +27,8 @@ fn next_number<'a>(arguments: &'a [Value]) -> Option<(i64, &'a [Value])>
     }
 }
 
-/// The text with each directive `%d` replaced by the next argument, and `%%` by one `%` (DRM 12, "format").
+/// The text with each directive `%d` replaced by the next argument, and `%%` by one `%` (DRM 12,
+/// "format").
 pub(crate) fn format(
     alloc: Global,
     text: &[u8],

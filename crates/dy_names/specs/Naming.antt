@@ -1,4 +1,5 @@
--- What a name means: the innermost local of its text and its origin, else what a table has for it (DRM 4, "Bindings").
+-- What a name means: the innermost local of its text and its origin, else what a table has for it
+-- (DRM 4, "Bindings").
 use Rattle.std.specs.Prelude.{Bool, false, List, [], ◌∷◌, Option, Some, None, nat_eq, ◌&&◌, cond}
 use Rattle.std.specs.Str.{bytes_eq}
 use Rattle.dy_base.specs.declared.ids.BindingId.{BindingId}
@@ -9,7 +10,8 @@ use Rattle.dy_names.specs.declared.denotation.Denotation.{Denotation}
 use Rattle.dy_names.specs.declared.denotation.Meaning.{Meaning}
 use Rattle.dy_names.specs.declared.denotation.Meaning.TheVariants.{InForce, Owned, Unbound}
 
--- whether two locals have one name: one text and one origin, wherever they stand, or one number of a hidden one
+-- whether two locals have one name: one text and one origin, wherever they stand, or one number of
+-- a hidden one
 abbrev pub is_same : Local → Local → Bool
 is_same (Named a) (Named b) = nat_eq a.origin b.origin && bytes_eq a.text b.text
 is_same (Named a) (Hidden n) = false

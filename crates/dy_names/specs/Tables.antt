@@ -19,12 +19,15 @@ Keyed B V = List ((ℕ × Vec ℕ B) × V)
 
 -- what entries have at a number and a text
 abbrev pub entry_at : {B V : Type 0} → Keyed B V → ℕ → List ℕ → Option V
-entry_at entries number text = lookup (is_at (λ k. ordering_then (nat_cmp number k.0) (slice_cmp nat_cmp text k.1.items))) entries
+entry_at entries number text =
+    lookup (is_at (λ k. ordering_then (nat_cmp number k.0) (slice_cmp nat_cmp text k.1.items)))
+    entries
 
 unfoldable pub owner_in : OwnerTable → Token → Option BindingId
 owner_in table name = entry_at table.entries.entries name.module name.text
 
--- what two tables have for a local: one for names, by origin and text, and one for hidden locals, by number
+-- what two tables have for a local: one for names, by origin and text, and one for hidden locals,
+-- by number
 abbrev pub entry_of : {B V : Type 0} → Keyed B V → List (ℕ × V) → Local → Option V
 entry_of named hidden (Named name) = entry_at named name.origin name.text
 entry_of named hidden (Hidden n) = lookup (is_at (nat_cmp n)) hidden
@@ -47,6 +50,7 @@ KnowOuter [] = Unit {0}
 KnowOuter (b ∷ outer) = (b.outer ≡ innermost (locals_in outer) b.local) × KnowOuter outer
 
 -- the tables have the innermost local of each name; the list has the innermost first
-pub record IsKept {B : Type 0} (bound : List Bound) (named : Keyed B (Option Denotation)) (hidden : List (ℕ × Option Denotation)) : Type 0 where
+pub record IsKept {B : Type 0} (bound : List Bound) (named : Keyed B (Option Denotation))
+    (hidden : List (ℕ × Option Denotation)) : Type 0 where
   pub found : (name : Local) → flat (entry_of named hidden name) ≡ innermost (locals_in bound) name
   pub outer : KnowOuter bound

@@ -17,12 +17,13 @@ pub trait Environment {
     /// The owner of each name, and what each type stands for.
     ghost outside: { Self → Outside };
 
-    /// The owner of a name in the module of its token, or `None` where it has none. The one error is want
-    /// of memory.
+    /// The owner of a name in the module of its token, or `None` where it has none. The one error
+    /// is want of memory.
     fn owner(&self, alloc: Global, name: &Token) -> Result<Option<BindingId>, AllocError>
         ensures { IfOk result (λ found. found ≡ (outside self.now).owner name.now) };
 
-    /// What a type stands for where these locals are in force. A fault is what is wrong with the type.
+    /// What a type stands for where these locals are in force. A fault is what is wrong with the
+    /// type.
     fn type_of(&self, alloc: Global, scope: &Scope, draft: &DraftType) -> Result<DyType, Refusal>
         ensures { IsRead ((outside self.now).type scope.now (seen_type draft.now)) result };
 }

@@ -10,8 +10,8 @@ use crate::scope::Scope;
 use dy_tree::Token;
 use std::alloc::{AllocError, Global};
 
-/// What a name means where these locals are in force: the innermost of them with its text and its origin,
-/// else its owner (DRM 4, "Bindings"). The one error is want of memory.
+/// What a name means where these locals are in force: the innermost of them with its text and its
+/// origin, else its owner (DRM 4, "Bindings"). The one error is want of memory.
 #[tactic(auto, unfolding(crate::specs::Naming::means))]
 pub fn meaning<E: Environment>(
     alloc: Global,
@@ -19,7 +19,8 @@ pub fn meaning<E: Environment>(
     scope: &Scope,
     name: &Token,
 ) -> Result<Meaning, AllocError>
-    ensures { IfOk result (λ meaning. meaning ≡ means (E.outside environment.now).owner scope.now name.now) }
+    ensures { IfOk result (λ meaning. meaning
+        ≡ means (E.outside environment.now).owner scope.now name.now) }
 {
     match scope.find(alloc, name)? {
         Some(denotation) => Ok(Meaning::InForce(denotation)),

@@ -26,8 +26,8 @@ impl OwnerTable {
         }
     }
 
-    /// The owner of a name in the module of its token, or `None` where it has none. The one error is want
-    /// of memory.
+    /// The owner of a name in the module of its token, or `None` where it has none. The one error
+    /// is want of memory.
     pub fn get(&self, alloc: Global, name: &Token) -> Result<Option<BindingId>, AllocError>
         ensures { IfOk result (λ found. found ≡ owner_in self.now name.now) }
     {
@@ -35,7 +35,8 @@ impl OwnerTable {
         Ok(self.entries.get(&key).copied())
     }
 
-    /// Gives a name of a module an owner, in place of the one that it had. The one error is want of memory.
+    /// Gives a name of a module an owner, in place of the one that it had. The one error is want of
+    /// memory.
     pub fn set(
         &mut self,
         alloc: Global,
@@ -44,7 +45,8 @@ impl OwnerTable {
         owner: BindingId,
     ) -> Result<(), AllocError>
         ensures { OnOk result ((name : Token) → owner_in self.new name
-            ≡ cond (nat_eq «module» name.module && bytes_eq text.now name.text) (Some owner) (owner_in self.old name)) }
+            ≡ cond (nat_eq «module» name.module && bytes_eq text.now name.text) (Some owner)
+            (owner_in self.old name)) }
     {
         let key = (module, text.to_vec(alloc)?);
         self.entries.insert(key, owner)?;

@@ -20,8 +20,8 @@ pub struct Bound {
     pub outer: Option<Denotation>,
 }
 
-/// The locals in force, each with what it stands for. Contracts see them as a list, the innermost first.
-/// The innermost one of each name is found in logarithmic time.
+/// The locals in force, each with what it stands for. Contracts see them as a list, the innermost
+/// first. The innermost one of each name is found in logarithmic time.
 #[derive(Drop)]
 pub struct Scope {
     bound: Vec<Bound>,
@@ -60,7 +60,8 @@ impl Scope {
         self.bound.len()
     }
 
-    /// What the innermost local of this text and this origin stands for. The one error is want of memory.
+    /// What the innermost local of this text and this origin stands for. The one error is want of
+    /// memory.
     pub fn find(&self, alloc: Global, name: &Token) -> Result<Option<Denotation>, AllocError>
         ensures { IfOk result (λ found. found ≡ innermost self.now (Named name.now)) }
     {
@@ -75,8 +76,8 @@ impl Scope {
         flat(self.hidden.get(&number).copied())
     }
 
-    /// Puts a name in force, inside of all others. An `Err` is want of memory, and nothing is said of
-    /// what is in force then.
+    /// Puts a name in force, inside of all others. An `Err` is want of memory, and nothing is said
+    /// of what is in force then.
     pub fn bind(
         &mut self,
         alloc: Global,
@@ -102,8 +103,8 @@ impl Scope {
         }
     }
 
-    /// Puts a hidden local in force, inside of all others. An `Err` is want of memory, and nothing is said
-    /// of what is in force then.
+    /// Puts a hidden local in force, inside of all others. An `Err` is want of memory, and nothing
+    /// is said of what is in force then.
     pub fn bind_hidden(&mut self, number: usize, denotation: Denotation) -> Result<(), AllocError>
         ensures { OnOk result (self.new ≡ (Hidden number, denotation) ∷ self.old) }
     {
@@ -122,8 +123,8 @@ impl Scope {
         }
     }
 
-    /// Puts a local in force, inside of all others. An `Err` is want of memory, and nothing is said of
-    /// what is in force then.
+    /// Puts a local in force, inside of all others. An `Err` is want of memory, and nothing is said
+    /// of what is in force then.
     pub fn bind_local(
         &mut self,
         alloc: Global,

@@ -1,4 +1,5 @@
--- Whether a symbol at the front of an argument is passed with the value behind it (DRM, appendix A).
+-- Whether a symbol at the front of an argument is passed with the value behind it (DRM, appendix
+-- A).
 use Rattle.std.specs.Prelude.{Bool, true, false, not, ◌&&◌, List, [], ◌∷◌}
 use Rattle.std.specs.List.{list_any}
 use Rattle.dy_tree.specs.Fragments.{SeenFragment, one, group, row}
@@ -20,8 +21,8 @@ abbrev pub is_comma_fragment : SeenFragment → Bool
 is_comma_fragment (one token) = is_comma (role_of token)
 is_comma_fragment (group opener inner closer) = false
 
--- Behind an operand these begin nothing, and so another operand alone. Round brackets would be a call, and a
--- minus a difference.
+-- Behind an operand these begin nothing, and so another operand alone. Round brackets would be a
+-- call, and a minus a difference.
 abbrev pub begins_operand : Role → Bool
 begins_operand roles.Integer = true
 begins_operand roles.Character = true
@@ -46,13 +47,15 @@ only_begins_operand (group opener inner closer) = group_begins_operand (bracket_
 
 -- a symbol, and what can only be a value behind it
 abbrev pub symbol_and_value : SeenFragment → List SeenFragment → Bool
-symbol_and_value (one token) (second ∷ rest) = is_symbol (role_of token) && only_begins_operand second
+symbol_and_value (one token) (second ∷ rest) =
+    is_symbol (role_of token) && only_begins_operand second
 symbol_and_value _ _ = false
 
 -- of arguments: they are one expression
 abbrev pub is_single : List SeenFragment → Bool
 is_single [] = false
-is_single (first ∷ rest) = not (list_any is_comma_fragment (first ∷ rest)) && not (symbol_and_value first rest)
+is_single (first ∷ rest) =
+    not (list_any is_comma_fragment (first ∷ rest)) && not (symbol_and_value first rest)
 
 abbrev pub is_minus : Role → Bool
 is_minus roles.Minus = true

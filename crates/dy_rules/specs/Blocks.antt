@@ -1,5 +1,6 @@
 -- The clauses of a block, by functions that compute.
-use Rattle.std.specs.Prelude.{Bool, true, false, List, [], ◌∷◌, Option, Some, None, option_map, option_and_then}
+use Rattle.std.specs.Prelude.{Bool, true, false, List, [], ◌∷◌, Option, Some, None, option_map}
+use Rattle.std.specs.Prelude.{option_and_then}
 use Rattle.dy_tree.specs.declared.token.Token.{Token}
 use Rattle.dy_tree.specs.Fragments.{SeenFragment, one, group, row}
 use Rattle.dy_tree.specs.declared.roles.Role.{Role}
@@ -8,10 +9,13 @@ use Rattle.dy_tree.specs.declared.splitters.Splitting.TheVariants as splittings
 use Rattle.dy_tree.specs.declared.splitters.Splitter.{Splitter}
 use Rattle.dy_tree.specs.declared.splitters.Splitter.TheVariants as splitters
 use Rattle.dy_rules.specs.Types.{TypeTree}
-use Rattle.dy_rules.specs.Trees.{Tree, block_tree, ItemTree, body_of, BlockClause, afterwards_clause, cleanup_clause, exception_clause, block_clauses_of}
+use Rattle.dy_rules.specs.Trees.{Tree, block_tree, ItemTree, body_of, BlockClause}
+use Rattle.dy_rules.specs.Trees.{afterwards_clause, cleanup_clause, exception_clause}
+use Rattle.dy_rules.specs.Trees.{block_clauses_of}
 use Rattle.dy_rules.specs.Roles.{role_of}
 use Rattle.dy_rules.specs.Productions.{suit_block}
-use Rattle.dy_rules.specs.Cutting.{Caught, Item, Piece, Pieces, is_splitter, cut, with_others, Front, headed, word_of}
+use Rattle.dy_rules.specs.Cutting.{Caught, Item, Piece, Pieces, is_splitter, cut, with_others}
+use Rattle.dy_rules.specs.Cutting.{Front, headed, word_of}
 use Rattle.dy_rules.specs.TypeReading.{type_items, is_colons}
 use Rattle.dy_rules.specs.Bodies.{body_items}
 
@@ -65,15 +69,18 @@ abbrev pub exception_items : Front → Option BlockClause
 exception_items front = option_and_then (exception_with front.rest) front.first.found.caught
 
 abbrev pub block_clause_at : Splitter → List Item → Option BlockClause
-block_clause_at splitters.Afterwards items = option_map afterwards_of (body_items splittings.Endings items)
-block_clause_at splitters.Cleanup items = option_map cleanup_of (body_items splittings.Endings items)
+block_clause_at splitters.Afterwards items =
+    option_map afterwards_of (body_items splittings.Endings items)
+block_clause_at splitters.Cleanup items =
+    option_map cleanup_of (body_items splittings.Endings items)
 block_clause_at splitters.Exception items = option_and_then exception_items (headed items)
 block_clause_at _ items = None
 
 -- the clauses behind the body of a block
 abbrev pub block_clauses_in : List Piece → Option (List BlockClause)
 block_clauses_in [] = Some []
-block_clauses_in (piece ∷ others) = with_others (block_clause_at (word_of piece.separator) piece.items) (block_clauses_in others)
+block_clauses_in (piece ∷ others) =
+    with_others (block_clause_at (word_of piece.separator) piece.items) (block_clauses_in others)
 
 abbrev pub block_of : Token → Option Token → List ItemTree → List BlockClause → Tree
 block_of word exit trees clauses = block_tree word exit (body_of trees) (block_clauses_of clauses)
@@ -85,11 +92,16 @@ block_if false word exit trees clauses = None
 abbrev pub block_suits : Token → Option Token → List ItemTree → List BlockClause → Option Tree
 block_suits word exit trees clauses = block_if (suit_block clauses) word exit trees clauses
 
-abbrev pub block_body : Token → Option Token → Option (List BlockClause) → List ItemTree → Option Tree
+abbrev pub block_body : Token → Option Token → Option (List BlockClause) → List ItemTree
+    → Option Tree
 block_body word exit clauses trees = option_and_then (block_suits word exit trees) clauses
 
 abbrev pub block_pieces : Token → Pieces → Option Token → Option Tree
-block_pieces word pieces exit = option_and_then (block_body word exit (block_clauses_in pieces.others)) (body_items splittings.Endings pieces.first)
+block_pieces word pieces exit =
+    option_and_then (block_body word exit (block_clauses_in pieces.others))
+    (body_items splittings.Endings pieces.first)
 
 abbrev pub block_items : Token → Front → Option Tree
-block_items word front = option_and_then (block_pieces word (cut (is_splitter splittings.Endings) false front.rest)) (exit_inside front.first.fragment)
+block_items word front = option_and_then
+    (block_pieces word (cut (is_splitter splittings.Endings) false front.rest))
+    (exit_inside front.first.fragment)

@@ -1,5 +1,6 @@
 -- The bodies and statements that items stand for, by functions that compute.
-use Rattle.std.specs.Prelude.{Bool, true, false, List, [], ◌∷◌, Option, Some, None, option_map, option_and_then}
+use Rattle.std.specs.Prelude.{Bool, true, false, List, [], ◌∷◌, Option, Some, None, option_map}
+use Rattle.std.specs.Prelude.{option_and_then}
 use Rattle.dy_tree.specs.declared.token.Token.{Token}
 use Rattle.dy_tree.specs.Fragments.{SeenFragment, one, group}
 use Rattle.dy_tree.specs.declared.roles.Role.{Role}
@@ -8,11 +9,13 @@ use Rattle.dy_tree.specs.declared.brackets.Keyword.TheVariants as keywords
 use Rattle.dy_tree.specs.declared.brackets.Bracket.{Bracket}
 use Rattle.dy_tree.specs.declared.brackets.Bracket.TheVariants as brackets
 use Rattle.dy_tree.specs.declared.splitters.Splitting.{Splitting}
-use Rattle.dy_rules.specs.Trees.{Tree, ItemTree, let_item, handler_item, expression_item, body_of, local_item, LocalMethod, local_method, methods_of, parameters_of}
+use Rattle.dy_rules.specs.Trees.{Tree, ItemTree, let_item, handler_item, expression_item, body_of}
+use Rattle.dy_rules.specs.Trees.{local_item, LocalMethod, local_method, methods_of, parameters_of}
 use Rattle.dy_rules.specs.Types.{is_equals, TypeTree, binds_plainly, TargetTree}
 use Rattle.dy_rules.specs.TypeReading.{type_items, target_items}
 use Rattle.dy_rules.specs.Roles.{role_of, bracket_of}
-use Rattle.dy_rules.specs.Cutting.{Item, is_semicolon, cut, each, without_end, Sides, first_cut, fragments_in, NamedFound}
+use Rattle.dy_rules.specs.Cutting.{Item, is_semicolon, cut, each, without_end, Sides, first_cut}
+use Rattle.dy_rules.specs.Cutting.{fragments_in, NamedFound}
 use Rattle.dy_rules.specs.Reading.{expression_items}
 use Rattle.dy_rules.specs.Arguments.{is_comma_fragment}
 
@@ -53,26 +56,33 @@ abbrev pub let_with : Splitting → Token → List Item → TargetTree → Optio
 let_with words word after target = option_map (let_of word target) (expression_items words after)
 
 abbrev pub handler_with : Splitting → Token → List Item → TypeTree → Option ItemTree
-handler_with words word after condition = option_map (handler_of word condition) (expression_items words after)
+handler_with words word after condition =
+    option_map (handler_of word condition) (expression_items words after)
 
 -- what is bound, which begins with this item
 abbrev pub bound_at : Bool → Splitting → Token → Item → List Item → List Item → Option ItemTree
-bound_at true words word item rest after = option_and_then (handler_with words word after) (type_items rest)
-bound_at false words word item rest after = option_and_then (let_with words word after) (target_items (item ∷ rest))
+bound_at true words word item rest after =
+    option_and_then (handler_with words word after) (type_items rest)
+bound_at false words word item rest after =
+    option_and_then (let_with words word after) (target_items (item ∷ rest))
 
 abbrev pub bound_from : Splitting → Token → List Item → List Item → Option ItemTree
 bound_from words word [] after = None
-bound_from words word (item ∷ rest) after = bound_at (is_handler item.fragment) words word item rest after
+bound_from words word (item ∷ rest) after =
+    bound_at (is_handler item.fragment) words word item rest after
 
 abbrev pub let_if : Bool → Splitting → Token → Sides → Option ItemTree
 let_if true words word sides = bound_from words word sides.before sides.after
 let_if false words word sides = None
 
 abbrev pub let_sides : Splitting → Token → Sides → Option ItemTree
-let_sides words word sides = let_if (binds_plainly words (fragments_in sides.before)) words word sides
+let_sides words word sides =
+    let_if (binds_plainly words (fragments_in sides.before)) words word sides
 
 abbrev pub method_tree_of : Token → NamedFound → LocalMethod
-method_tree_of word named = local_method word named.token (parameters_of named.method.found named.method.results) (body_of named.method.trees)
+method_tree_of word named =
+    local_method word named.token (parameters_of named.method.found named.method.results)
+    (body_of named.method.trees)
 
 abbrev pub method_in : Bracket → Token → Option NamedFound → Option LocalMethod
 method_in (brackets.Statement keywords.Method) word named = option_map (method_tree_of word) named
@@ -91,9 +101,12 @@ abbrev pub local_of : Token → List LocalMethod → ItemTree
 local_of word methods = local_item word (methods_of methods)
 
 abbrev pub item_by : ItemFront → Splitting → Item → List Item → Option ItemTree
-item_by (let_front word) words item rest = option_and_then (let_sides words word) (first_cut is_equals_at rest)
-item_by (local_front word) words item rest = option_map (local_of word) (each method_alone (cut is_comma_fragment false rest))
-item_by other_front words item rest = option_map expression_item (expression_items words (item ∷ rest))
+item_by (let_front word) words item rest =
+    option_and_then (let_sides words word) (first_cut is_equals_at rest)
+item_by (local_front word) words item rest =
+    option_map (local_of word) (each method_alone (cut is_comma_fragment false rest))
+item_by other_front words item rest =
+    option_map expression_item (expression_items words (item ∷ rest))
 
 abbrev pub item_items : Splitting → List Item → Option ItemTree
 item_items words [] = None

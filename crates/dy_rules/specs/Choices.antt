@@ -1,15 +1,19 @@
--- The arms of a case or a select, by functions that compute. The pieces between the semicolons are read from the end on.
-use Rattle.std.specs.Prelude.{Bool, true, false, List, [], ◌∷◌, Option, Some, None, option_map, option_and_then}
+-- The arms of a case or a select, by functions that compute. The pieces between the semicolons are
+-- read from the end on.
+use Rattle.std.specs.Prelude.{Bool, true, false, List, [], ◌∷◌, Option, Some, None, option_map}
+use Rattle.std.specs.Prelude.{option_and_then}
 use Rattle.dy_tree.specs.Fragments.{SeenFragment, one, group}
 use Rattle.dy_tree.specs.declared.roles.Role.{Role}
 use Rattle.dy_tree.specs.declared.roles.Role.TheVariants as roles
 use Rattle.dy_tree.specs.declared.splitters.Splitting.{Splitting}
 use Rattle.dy_tree.specs.declared.splitters.Splitting.TheVariants as splittings
-use Rattle.dy_rules.specs.Trees.{Tree, ItemTree, body_of, Otherwise, no_otherwise, otherwise, Arm, arm, tests_of}
+use Rattle.dy_rules.specs.Trees.{Tree, ItemTree, body_of, Otherwise, no_otherwise, otherwise, Arm}
+use Rattle.dy_rules.specs.Trees.{arm, tests_of}
 use Rattle.dy_rules.specs.Roles.{role_of}
 use Rattle.dy_rules.specs.Arguments.{is_comma_fragment}
 use Rattle.dy_rules.specs.Productions.{suits}
-use Rattle.dy_rules.specs.Cutting.{Head, Item, Piece, Pieces, is_semicolon, is_arrow, is_splitter, cut, each, without_end}
+use Rattle.dy_rules.specs.Cutting.{Head, Item, Piece, Pieces, is_semicolon, is_arrow, is_splitter}
+use Rattle.dy_rules.specs.Cutting.{cut, each, without_end}
 use Rattle.dy_rules.specs.Reading.{expression_items}
 use Rattle.dy_rules.specs.Bodies.{item_items}
 
@@ -97,16 +101,22 @@ last_with _ _ body = None
 -- a piece in front of what was read
 abbrev pub choice_at : Splitting → Bool → PieceKind → List Item → Choices → Option Choices
 choice_at words single item_piece items rest = option_map (with_lead rest) (item_items words items)
-choice_at words single (arm_piece before after) items rest = option_and_then (arm_with single rest (body_with words after rest.lead)) (tests_items before)
-choice_at words single (otherwise_piece after) items rest = last_with rest.arms rest.last (body_with words after rest.lead)
+choice_at words single (arm_piece before after) items rest =
+    option_and_then (arm_with single rest (body_with words after rest.lead)) (tests_items before)
+choice_at words single (otherwise_piece after) items rest =
+    last_with rest.arms rest.last (body_with words after rest.lead)
 choice_at words single no_piece items rest = None
 
 abbrev pub choices_behind : Splitting → Bool → List Piece → Option Choices
 choices_behind words single [] = Some no_choices
-choices_behind words single (piece ∷ others) = option_and_then (choice_at words single (kind_of piece.items) piece.items) (choices_behind words single others)
+choices_behind words single (piece ∷ others) =
+    option_and_then (choice_at words single (kind_of piece.items) piece.items)
+    (choices_behind words single others)
 
 abbrev pub choices_pieces : Splitting → Bool → Pieces → Option Choices
-choices_pieces words single pieces = option_and_then (choice_at words single (kind_of pieces.first) pieces.first) (choices_behind words single pieces.others)
+choices_pieces words single pieces =
+    option_and_then (choice_at words single (kind_of pieces.first) pieces.first)
+    (choices_behind words single pieces.others)
 
 abbrev pub finished_lead : List ItemTree → Choices → Option Choices
 finished_lead [] found = Some found
@@ -117,7 +127,9 @@ finished_choices found = finished_lead found.lead found
 
 abbrev pub some_arms_items : Bool → List Item → Option Choices
 some_arms_items single [] = None
-some_arms_items single (item ∷ rest) = option_and_then finished_choices (choices_pieces splittings.Nothing single (cut is_semicolon false (item ∷ rest)))
+some_arms_items single (item ∷ rest) =
+    option_and_then finished_choices
+    (choices_pieces splittings.Nothing single (cut is_semicolon false (item ∷ rest)))
 
 abbrev pub arms_items : Bool → List Item → Option Choices
 arms_items single [] = Some no_choices
@@ -134,7 +146,8 @@ head_with items selected = option_map (head_by selected) (expression_items split
 
 abbrev pub head_behind : List Item → List Piece → Option Head
 head_behind first [] = option_map head_alone (expression_items splittings.Tests first)
-head_behind first (piece ∷ []) = option_and_then (head_with piece.items) (expression_items splittings.Tests first)
+head_behind first (piece ∷ []) =
+    option_and_then (head_with piece.items) (expression_items splittings.Tests first)
 head_behind first (piece ∷ second ∷ others) = None
 
 abbrev pub head_pieces : Pieces → Option Head

@@ -1,14 +1,17 @@
--- The list or vector that the inside of a group stands for, by functions that compute, fragment by fragment.
+-- The list or vector that the inside of a group stands for, by functions that compute, fragment by
+-- fragment.
 use Rattle.std.specs.Prelude.{List, [], ◌∷◌, ◌++◌, Option, Some, None, option_map, option_and_then}
 use Rattle.dy_tree.specs.declared.token.Token.{Token}
 use Rattle.dy_tree.specs.declared.types.LiteralForm.{LiteralForm}
-use Rattle.dy_tree.specs.Fragments.{SeenFragment, one, group, SeenFragments, no_fragment, fragment_and}
+use Rattle.dy_tree.specs.Fragments.{SeenFragment, one, group, SeenFragments, no_fragment}
+use Rattle.dy_tree.specs.Fragments.{fragment_and}
 use Rattle.dy_tree.specs.declared.roles.Role.{Role}
 use Rattle.dy_tree.specs.declared.roles.Role.TheVariants as roles
 use Rattle.dy_tree.specs.declared.brackets.Bracket.{Bracket}
 use Rattle.dy_tree.specs.declared.brackets.Bracket.TheVariants as brackets
 use Rattle.dy_rules.specs.Roles.{role_of, negative, bracket_of}
-use Rattle.dy_rules.specs.ConstantTrees.{Constant, literal_item, list_item, vector_item, constants_of, tail_of}
+use Rattle.dy_rules.specs.ConstantTrees.{Constant, literal_item, list_item, vector_item}
+use Rattle.dy_rules.specs.ConstantTrees.{constants_of, tail_of}
 use Rattle.dy_rules.specs.Constants.{token_literal}
 
 pub data Element : Type 0 where
@@ -69,8 +72,10 @@ at_digits roles.Integer sign token = Some (known_literal (negative sign token))
 at_digits _ sign token = None
 
 abbrev pub group_element : Bracket → Token → Option Listing → Option Element
-group_element brackets.SharpRound opener found = option_map (known_list opener) (option_and_then list_found found)
-group_element brackets.SharpSquare opener found = option_map (known_vector opener) (option_and_then vector_found found)
+group_element brackets.SharpRound opener found =
+    option_map (known_list opener) (option_and_then list_found found)
+group_element brackets.SharpSquare opener found =
+    option_map (known_vector opener) (option_and_then vector_found found)
 group_element _ opener found = None
 
 abbrev pub element_step : Element → ConstantItem → Option Element
@@ -87,20 +92,24 @@ behind_constant _ items = None
 
 abbrev pub listing_step : Listing → ConstantItem → Option Listing
 listing_step started item = option_map (element []) (element_step comes item)
-listing_step (element items (known value)) (token_of token) = behind_constant (role_of token) (items ++ value ∷ [])
+listing_step (element items (known value)) (token_of token) =
+    behind_constant (role_of token) (items ++ value ∷ [])
 listing_step (element items (known value)) (group_of kind opener found) = None
 listing_step (element items comes) item = option_map (element items) (element_step comes item)
-listing_step (element items (after_sign sign)) item = option_map (element items) (element_step (after_sign sign) item)
+listing_step (element items (after_sign sign)) item =
+    option_map (element items) (element_step (after_sign sign) item)
 listing_step (ending items state) item = option_map (ending items) (element_step state item)
 
 abbrev mutual
   pub constant_item : SeenFragment → ConstantItem
   constant_item (one token) = token_of token
-  constant_item (group opener inner closer) = group_of (bracket_of opener closer) opener (listed started inner)
+  constant_item (group opener inner closer) =
+      group_of (bracket_of opener closer) opener (listed started inner)
 
   pub listed : Listing → SeenFragments → Option Listing
   listed listing no_fragment = Some listing
-  listed listing (fragment_and first rest) = option_and_then (λ next. listed next rest) (listing_step listing (constant_item first))
+  listed listing (fragment_and first rest) =
+      option_and_then (λ next. listed next rest) (listing_step listing (constant_item first))
 
 abbrev pub list_in : SeenFragments → Option Inside
 list_in inner = option_and_then list_found (listed started inner)

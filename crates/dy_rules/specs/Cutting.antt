@@ -1,5 +1,6 @@
 -- Fragments with what was read inside of them, and how they are cut at separators.
-use Rattle.std.specs.Prelude.{Bool, true, false, not, ◌&&◌, List, [], ◌∷◌, Option, Some, None, option_map}
+use Rattle.std.specs.Prelude.{Bool, true, false, not, ◌&&◌, List, [], ◌∷◌, Option, Some, None}
+use Rattle.std.specs.Prelude.{option_map}
 use Rattle.dy_tree.specs.Fragments.{SeenFragment, one, group}
 use Rattle.dy_tree.specs.declared.token.Token.{Token}
 use Rattle.dy_tree.specs.declared.roles.Role.{Role}
@@ -99,13 +100,21 @@ is_splitter words (one token) = splits words token
 is_splitter words (group opener inner closer) = false
 
 abbrev pub cut_if : Bool → Item → Pieces → Pieces → Pieces
-cut_if true item behind_it with_it = record { first = []; others = record { separator = item.fragment; items = behind_it.first } ∷ behind_it.others }
-cut_if false item behind_it with_it = record { first = item ∷ with_it.first; others = with_it.others }
+cut_if true item behind_it with_it =
+    record {
+      first = [];
+      others = record { separator = item.fragment; items = behind_it.first } ∷ behind_it.others;
+    }
+cut_if false item behind_it with_it =
+    record { first = item ∷ with_it.first; others = with_it.others }
 
--- Items cut at each separator. What stands right behind a `let` is none, and the first item may stand there.
+-- Items cut at each separator. What stands right behind a `let` is none, and the first item may
+-- stand there.
 abbrev pub cut : (SeenFragment → Bool) → Bool → List Item → Pieces
 cut separates bound [] = record { first = []; others = [] }
-cut separates bound (item ∷ rest) = cut_if (not bound && separates item.fragment) item (cut separates false rest) (cut separates (is_let item.fragment) rest)
+cut separates bound (item ∷ rest) =
+    cut_if (not bound && separates item.fragment) item (cut separates false rest)
+    (cut separates (is_let item.fragment) rest)
 
 abbrev pub with_others : {A : Type 0} → Option A → Option (List A) → Option (List A)
 with_others None others = None
@@ -145,7 +154,8 @@ sides_at false item rest found = option_map (with_before item) found
 
 abbrev pub first_cut : (SeenFragment → Bool) → List Item → Option Sides
 first_cut separates [] = None
-first_cut separates (item ∷ rest) = sides_at (separates item.fragment) item rest (first_cut separates rest)
+first_cut separates (item ∷ rest) =
+    sides_at (separates item.fragment) item rest (first_cut separates rest)
 
 -- the fragments of items
 abbrev pub fragments_in : List Item → List SeenFragment
@@ -161,18 +171,23 @@ only_last last = record { parts = []; last = Some last }
 abbrev pub with_part : {A B : Type 0} → Option A → Option (Ending A B) → Option (Ending A B)
 with_part None others = None
 with_part (Some part) None = None
-with_part (Some part) (Some others) = Some (record { parts = part ∷ others.parts; last = others.last })
+with_part (Some part) (Some others) =
+    Some (record { parts = part ∷ others.parts; last = others.last })
 
 abbrev pub ending_at : {A B : Type 0} → Bool → Option A → Option B → Option (Ending A B)
 ending_at true part last = option_map only_last last
 ending_at false part last = option_map only_part part
 
 -- Parts that the first test finds to be of the other sort stand at the end alone.
-abbrev pub ending_from : {A B : Type 0} → (List Item → Bool) → (List Item → Option A) → (List Item → Option B) → List Item → List Piece → Option (Ending A B)
-ending_from is_last read read_last first [] = ending_at (is_last first) (read first) (read_last first)
-ending_from is_last read read_last first (piece ∷ others) = with_part (read first) (ending_from is_last read read_last piece.items others)
+abbrev pub ending_from : {A B : Type 0} → (List Item → Bool) → (List Item → Option A)
+    → (List Item → Option B) → List Item → List Piece → Option (Ending A B)
+ending_from is_last read read_last first [] =
+    ending_at (is_last first) (read first) (read_last first)
+ending_from is_last read read_last first (piece ∷ others) =
+    with_part (read first) (ending_from is_last read read_last piece.items others)
 
-abbrev pub ending : {A B : Type 0} → (List Item → Bool) → (List Item → Option A) → (List Item → Option B) → Pieces → Option (Ending A B)
+abbrev pub ending : {A B : Type 0} → (List Item → Bool) → (List Item → Option A)
+    → (List Item → Option B) → Pieces → Option (Ending A B)
 ending is_last read read_last pieces = ending_from is_last read read_last pieces.first pieces.others
 
 -- the first item, and what stands behind it

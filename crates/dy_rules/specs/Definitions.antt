@@ -1,5 +1,6 @@
 -- The words of definitions and of slots, and the adjectives that suit (DRM, appendix A).
-use Rattle.std.specs.Prelude.{ℕ, Bool, true, false, not, ◌&&◌, ◌||◌, if◌then◌else◌, List, [], ◌∷◌, codes}
+use Rattle.std.specs.Prelude.{ℕ, Bool, true, false, not, ◌&&◌, ◌||◌, if◌then◌else◌, List, [], ◌∷◌}
+use Rattle.std.specs.Prelude.{codes}
 use Rattle.std.specs.List.{list_any}
 use Rattle.dy_tree.specs.declared.token.TokenKind.{TokenKind}
 use Rattle.dy_tree.specs.declared.token.TokenKind.TheVariants as kinds
@@ -16,7 +17,8 @@ use Rattle.dy_tree.specs.Spelling.{is_spelled}
 use Rattle.dy_rules.specs.Roles.{role_of, is_among}
 
 abbrev pub inlinings : List (List ℕ)
-inlinings = codes "inline" ∷ codes "not-inline" ∷ codes "may-inline" ∷ codes "default-inline" ∷ codes "inline-only" ∷ []
+inlinings = codes "inline" ∷ codes "not-inline" ∷ codes "may-inline" ∷ codes "default-inline"
+    ∷ codes "inline-only" ∷ []
 
 abbrev pub spelled_define_word : Token → DefineWord
 spelled_define_word token =
@@ -106,7 +108,9 @@ all_are is (first ∷ rest) = is (define_word_of first) && all_are is rest
 abbrev pub suit_class : List Token → Bool
 suit_class adjectives =
     all_are is_class_adjective adjectives
-    && (not (has is_open adjectives && has is_sealed adjectives) && (not (has is_abstract adjectives && has is_concrete adjectives) && not (has is_primary adjectives && has is_free adjectives)))
+    && (not (has is_open adjectives && has is_sealed adjectives)
+    && (not (has is_abstract adjectives && has is_concrete adjectives)
+    && not (has is_primary adjectives && has is_free adjectives)))
 
 abbrev pub suit_function : List Token → Bool
 suit_function adjectives = all_are is_inlining adjectives
@@ -114,7 +118,9 @@ suit_function adjectives = all_are is_inlining adjectives
 -- `sealed` once at most
 abbrev pub suit_method : List Token → Bool
 suit_method [] = true
-suit_method (first ∷ rest) = (is_sealed (define_word_of first) && suit_function rest) || (is_inlining (define_word_of first) && suit_method rest)
+suit_method (first ∷ rest) =
+    (is_sealed (define_word_of first) && suit_function rest)
+    || (is_inlining (define_word_of first) && suit_method rest)
 
 -- `open` or `sealed`, once at most
 abbrev pub suit_generic : List Token → Bool
@@ -134,7 +140,8 @@ suit_binding (first ∷ rest) = false
 abbrev pub spelled_slot_word : Token → SlotWord
 spelled_slot_word token =
     if is_spelled (codes "constant") token then slot_words.Constant
-    else if is_among (codes "instance" ∷ codes "class" ∷ codes "each-subclass" ∷ codes "virtual" ∷ []) token then slot_words.Allocation
+    else if is_among (codes "instance" ∷ codes "class" ∷ codes "each-subclass" ∷ codes "virtual"
+    ∷ []) token then slot_words.Allocation
     else if is_spelled (codes "slot") token then slot_words.Slot
     else slot_words.Absent
 
@@ -164,7 +171,8 @@ is_allocation _ = false
 abbrev pub suit_slot : List Token → Bool
 suit_slot [] = true
 suit_slot (first ∷ []) = is_constant_slot (slot_word_of first) || is_allocation (slot_word_of first)
-suit_slot (first ∷ second ∷ []) = is_constant_slot (slot_word_of first) && is_allocation (slot_word_of second)
+suit_slot (first ∷ second ∷ []) =
+    is_constant_slot (slot_word_of first) && is_allocation (slot_word_of second)
 suit_slot (first ∷ second ∷ third ∷ rest) = false
 
 abbrev pub spelled_option_word : Token → OptionWord

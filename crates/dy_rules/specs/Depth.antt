@@ -1,8 +1,26 @@
 -- How deep a tree is (own).
 use Rattle.std.specs.Prelude.{ℕ, ◌+◌, max, List, [], ◌∷◌, Option, Some, None}
-use Rattle.dy_rules.specs.Types.{TypeTree, named_type, singleton_type, union_type, limited_type, TypeTrees, no_type, type_and, VariableTree, TargetTree, one_target, several, RequiredTree, required_variable, required_single, ResultTree, several_results, one_result}
-use Rattle.dy_rules.specs.ConstantTrees.{Constant, literal_item, list_item, vector_item, Constants, no_constant, constant_and, Tail, no_tail, tail}
-use Rattle.dy_rules.specs.Trees.{Tree, assignment, operation, unary, call, element, member, literal, name, Arguments, no_argument, argument_and, Argument, keyword, value, list, vector, begin_tree, if_tree, guarded, Body, no_item, item_and, ItemTree, let_item, handler_item, expression_item, Alternatives, no_alternative, alternative_and, Alternative, alternative, Otherwise, no_otherwise, otherwise, case_tree, select_tree, MaybeTree, no_tree, some_tree, Arms, no_arm, arm_and, Arm, arm, Tests, no_test, test_and, block_tree, for_tree, BlockClauses, no_clause, clause_and, BlockClause, afterwards_clause, cleanup_clause, exception_clause, ForClauses, no_for_clause, for_clause_and, ForClause, then_clause, in_clause, from_clause, MaybeLimit, no_limit, a_limit, MaybeStop, no_stop, a_stop, method_tree, Parameters, parameters, MaybeKeys, no_keys, some_keys, Keys, no_key, key_and, Key, a_key, LocalMethods, no_method, method_and, LocalMethod, local_method, local_item}
+use Rattle.dy_rules.specs.Types.{TypeTree, named_type, singleton_type, union_type, limited_type}
+use Rattle.dy_rules.specs.Types.{TypeTrees, no_type, type_and, VariableTree, TargetTree, one_target}
+use Rattle.dy_rules.specs.Types.{several, RequiredTree, required_variable, required_single}
+use Rattle.dy_rules.specs.Types.{ResultTree, several_results, one_result}
+use Rattle.dy_rules.specs.ConstantTrees.{Constant, literal_item, list_item, vector_item, Constants}
+use Rattle.dy_rules.specs.ConstantTrees.{no_constant, constant_and, Tail, no_tail, tail}
+use Rattle.dy_rules.specs.Trees.{Tree, assignment, operation, unary, call, element, member, literal}
+use Rattle.dy_rules.specs.Trees.{name, Arguments, no_argument, argument_and, Argument, keyword}
+use Rattle.dy_rules.specs.Trees.{value, list, vector, begin_tree, if_tree, guarded, Body, no_item}
+use Rattle.dy_rules.specs.Trees.{item_and, ItemTree, let_item, handler_item, expression_item}
+use Rattle.dy_rules.specs.Trees.{Alternatives, no_alternative, alternative_and, Alternative}
+use Rattle.dy_rules.specs.Trees.{alternative, Otherwise, no_otherwise, otherwise, case_tree}
+use Rattle.dy_rules.specs.Trees.{select_tree, MaybeTree, no_tree, some_tree, Arms, no_arm, arm_and}
+use Rattle.dy_rules.specs.Trees.{Arm, arm, Tests, no_test, test_and, block_tree, for_tree}
+use Rattle.dy_rules.specs.Trees.{BlockClauses, no_clause, clause_and, BlockClause}
+use Rattle.dy_rules.specs.Trees.{afterwards_clause, cleanup_clause, exception_clause, ForClauses}
+use Rattle.dy_rules.specs.Trees.{no_for_clause, for_clause_and, ForClause, then_clause, in_clause}
+use Rattle.dy_rules.specs.Trees.{from_clause, MaybeLimit, no_limit, a_limit, MaybeStop, no_stop}
+use Rattle.dy_rules.specs.Trees.{a_stop, method_tree, Parameters, parameters, MaybeKeys, no_keys}
+use Rattle.dy_rules.specs.Trees.{some_keys, Keys, no_key, key_and, Key, a_key, LocalMethods}
+use Rattle.dy_rules.specs.Trees.{no_method, method_and, LocalMethod, local_method, local_item}
 
 -- A literal has depth 1, and a list or a vector is one deeper than its deepest part.
 abbrev mutual
@@ -49,7 +67,8 @@ target_depth (several variables rest) = variables_depth variables
 -- The value that a parameter is compared with is as deep as a name.
 abbrev pub required_depth : List RequiredTree → ℕ
 required_depth [] = 0
-required_depth (required_variable variable ∷ rest) = max (variable_depth variable) (required_depth rest)
+required_depth (required_variable variable ∷ rest) =
+    max (variable_depth variable) (required_depth rest)
 required_depth (required_single token single ∷ rest) = max 1 (required_depth rest)
 
 abbrev pub given_depth : Option VariableTree → ℕ
@@ -58,11 +77,12 @@ given_depth (Some variable) = variable_depth variable
 
 abbrev pub results_depth : Option ResultTree → ℕ
 results_depth None = 0
-results_depth (Some (several_results variables rest)) = max (variables_depth variables) (given_depth rest)
+results_depth (Some (several_results variables rest)) =
+    max (variables_depth variables) (given_depth rest)
 results_depth (Some (one_result variable)) = variable_depth variable
 
--- A name has depth 1. All else is one deeper than its deepest part, arguments and what stands in bodies included.
--- Brackets count for nothing.
+-- A name has depth 1. All else is one deeper than its deepest part, arguments and what stands in
+-- bodies included. Brackets count for nothing.
 abbrev mutual
   pub depth : Tree → ℕ
   depth (assignment place assigned) = 1 + max (depth place) (depth assigned)
@@ -76,16 +96,24 @@ abbrev mutual
   depth (list opener items last) = 1 + max (constants_depth items) (tail_depth last)
   depth (vector opener items) = 1 + constants_depth items
   depth (begin_tree word body) = 1 + body_depth body
-  depth (if_tree word test body others last) = 1 + max (max (depth test) (body_depth body)) (max (alternatives_depth others) (otherwise_depth last))
+  depth (if_tree word test body others last) =
+      1 + max (max (depth test) (body_depth body))
+      (max (alternatives_depth others) (otherwise_depth last))
   depth (guarded guard word test body) = 1 + max (depth test) (body_depth body)
   depth (case_tree word arms last) = 1 + max (arms_depth arms) (otherwise_depth last)
-  depth (select_tree word selected test arms last) = 1 + max (max (depth selected) (maybe_depth test)) (max (arms_depth arms) (otherwise_depth last))
-  depth (block_tree word exit body clauses) = 1 + max (body_depth body) (block_clauses_depth clauses)
-  depth (for_tree word clauses stop body last) = 1 + max (max (for_clauses_depth clauses) (stop_depth stop)) (max (body_depth body) (otherwise_depth last))
+  depth (select_tree word selected test arms last) =
+      1 + max (max (depth selected) (maybe_depth test))
+      (max (arms_depth arms) (otherwise_depth last))
+  depth (block_tree word exit body clauses) =
+      1 + max (body_depth body) (block_clauses_depth clauses)
+  depth (for_tree word clauses stop body last) =
+      1 + max (max (for_clauses_depth clauses) (stop_depth stop))
+      (max (body_depth body) (otherwise_depth last))
   depth (method_tree word signature body) = 1 + max (parameters_depth signature) (body_depth body)
 
   pub parameters_depth : Parameters → ℕ
-  parameters_depth (parameters required next rest keys results) = max (max (required_depth required) (maybe_keys_depth keys)) (results_depth results)
+  parameters_depth (parameters required next rest keys results) =
+      max (max (required_depth required) (maybe_keys_depth keys)) (results_depth results)
 
   pub maybe_keys_depth : MaybeKeys → ℕ
   maybe_keys_depth no_keys = 0
@@ -103,25 +131,32 @@ abbrev mutual
   methods_depth (method_and first rest) = max (method_depth first) (methods_depth rest)
 
   pub method_depth : LocalMethod → ℕ
-  method_depth (local_method word token signature body) = max (parameters_depth signature) (body_depth body)
+  method_depth (local_method word token signature body) =
+      max (parameters_depth signature) (body_depth body)
 
   pub block_clauses_depth : BlockClauses → ℕ
   block_clauses_depth no_clause = 0
-  block_clauses_depth (clause_and first rest) = max (block_clause_depth first) (block_clauses_depth rest)
+  block_clauses_depth (clause_and first rest) =
+      max (block_clause_depth first) (block_clauses_depth rest)
 
   pub block_clause_depth : BlockClause → ℕ
   block_clause_depth (afterwards_clause body) = body_depth body
   block_clause_depth (cleanup_clause body) = body_depth body
-  block_clause_depth (exception_clause variable condition body) = max (type_depth condition) (body_depth body)
+  block_clause_depth (exception_clause variable condition body) =
+      max (type_depth condition) (body_depth body)
 
   pub for_clauses_depth : ForClauses → ℕ
   for_clauses_depth no_for_clause = 0
-  for_clauses_depth (for_clause_and first rest) = max (for_clause_depth first) (for_clauses_depth rest)
+  for_clauses_depth (for_clause_and first rest) =
+      max (for_clause_depth first) (for_clauses_depth rest)
 
   pub for_clause_depth : ForClause → ℕ
-  for_clause_depth (then_clause variable first next) = max (variable_depth variable) (max (depth first) (depth next))
-  for_clause_depth (in_clause variable collection) = max (variable_depth variable) (depth collection)
-  for_clause_depth (from_clause variable start limit step) = max (max (variable_depth variable) (depth start)) (max (limit_depth limit) (maybe_depth step))
+  for_clause_depth (then_clause variable first next) =
+      max (variable_depth variable) (max (depth first) (depth next))
+  for_clause_depth (in_clause variable collection) =
+      max (variable_depth variable) (depth collection)
+  for_clause_depth (from_clause variable start limit step) =
+      max (max (variable_depth variable) (depth start)) (max (limit_depth limit) (maybe_depth step))
 
   pub limit_depth : MaybeLimit → ℕ
   limit_depth no_limit = 0
@@ -158,7 +193,8 @@ abbrev mutual
 
   pub alternatives_depth : Alternatives → ℕ
   alternatives_depth no_alternative = 0
-  alternatives_depth (alternative_and first rest) = max (alternative_depth first) (alternatives_depth rest)
+  alternatives_depth (alternative_and first rest) =
+      max (alternative_depth first) (alternatives_depth rest)
 
   pub alternative_depth : Alternative → ℕ
   alternative_depth (alternative test body) = max (depth test) (body_depth body)

@@ -1,7 +1,8 @@
 -- What fragments stand for. What is inside of a group is read first.
 use Rattle.std.specs.Prelude.{List, [], ◌∷◌, Option, None, map, option_map}
 use Rattle.dy_tree.specs.declared.token.Token.{Token}
-use Rattle.dy_tree.specs.Fragments.{SeenFragment, one, group, SeenFragments, no_fragment, fragment_and}
+use Rattle.dy_tree.specs.Fragments.{SeenFragment, one, group, SeenFragments, no_fragment}
+use Rattle.dy_tree.specs.Fragments.{fragment_and}
 use Rattle.dy_tree.specs.declared.brackets.Bracket.{Bracket}
 use Rattle.dy_tree.specs.declared.brackets.Bracket.TheVariants as brackets
 use Rattle.dy_tree.specs.declared.splitters.Splitting.{Splitting}
@@ -29,15 +30,43 @@ vector_tree opener items = vector opener (constants_of items)
 -- the tree that a group holds
 abbrev pub tree_inside : Bracket → Token → SeenFragments → List Item → Option Tree
 tree_inside brackets.SharpRound opener inner items = option_map (list_tree opener) (list_in inner)
-tree_inside brackets.SharpSquare opener inner items = option_map (vector_tree opener) (vector_in inner)
+tree_inside brackets.SharpSquare opener inner items =
+    option_map (vector_tree opener) (vector_in inner)
 tree_inside (brackets.Statement kind) opener inner items = statement_items kind opener items
 tree_inside _ opener inner items = expression_items splittings.Nothing items
 
 abbrev pub nothing_found : Found
-nothing_found = record { tree = None; passed = None; types = None; limits = None; bound = None; head = None; caught = None; given = None; listed = None; method = None; named_method = None; clauses = None }
+nothing_found = record {
+  tree = None;
+  passed = None;
+  types = None;
+  limits = None;
+  bound = None;
+  head = None;
+  caught = None;
+  given = None;
+  listed = None;
+  method = None;
+  named_method = None;
+  clauses = None;
+}
 
 abbrev pub found_of : Token → SeenFragments → Token → List Item → Found
-found_of opener inner closer items = record { tree = tree_inside (bracket_of opener closer) opener inner items; passed = passed_items items; types = types_items items; limits = limits_items items; bound = bind_items items; head = head_items items; caught = caught_items items; given = give_items items; listed = listed_items items; method = method_items items; named_method = named_items items; clauses = for_items items }
+found_of opener inner closer items =
+    record {
+      tree = tree_inside (bracket_of opener closer) opener inner items;
+      passed = passed_items items;
+      types = types_items items;
+      limits = limits_items items;
+      bound = bind_items items;
+      head = head_items items;
+      caught = caught_items items;
+      given = give_items items;
+      listed = listed_items items;
+      method = method_items items;
+      named_method = named_items items;
+      clauses = for_items items;
+    }
 
 abbrev mutual
   pub found_in : SeenFragment → Found
@@ -46,7 +75,8 @@ abbrev mutual
 
   pub items_in : SeenFragments → List Item
   items_in no_fragment = []
-  items_in (fragment_and first rest) = record { fragment = first; found = found_in first } ∷ items_in rest
+  items_in (fragment_and first rest) =
+      record { fragment = first; found = found_in first } ∷ items_in rest
 
 abbrev pub item_of : SeenFragment → Item
 item_of fragment = record { fragment = fragment; found = found_in fragment }

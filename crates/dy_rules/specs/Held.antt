@@ -18,7 +18,8 @@ abbrev pub held_body : Vec Item → trees.Body
 held_body body = trees.body_of (map seen_item body.items)
 
 abbrev pub held_alternative : Alternative → trees.Alternative
-held_alternative alternative = trees.alternative (seen_tree alternative.test) (held_body alternative.body)
+held_alternative alternative =
+    trees.alternative (seen_tree alternative.test) (held_body alternative.body)
 
 abbrev pub held_arm : Arm → trees.Arm
 held_arm arm = trees.arm (trees.tests_of (map seen_tree arm.tests.items)) (held_body arm.body)

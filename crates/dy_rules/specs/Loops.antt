@@ -1,15 +1,20 @@
 -- The clauses of a `for`, by functions that compute.
-use Rattle.std.specs.Prelude.{Bool, true, false, List, [], ◌∷◌, Option, Some, None, option_map, option_and_then}
+use Rattle.std.specs.Prelude.{Bool, true, false, List, [], ◌∷◌, Option, Some, None, option_map}
+use Rattle.std.specs.Prelude.{option_and_then}
 use Rattle.dy_tree.specs.declared.token.Token.{Token}
 use Rattle.dy_tree.specs.Fragments.{SeenFragment, one, group}
 use Rattle.dy_tree.specs.declared.splitters.Splitting.TheVariants as splittings
 use Rattle.dy_tree.specs.declared.splitters.Splitter.{Splitter}
 use Rattle.dy_tree.specs.declared.splitters.Splitter.TheVariants as splitters
 use Rattle.dy_rules.specs.Types.{VariableTree, binds_plainly}
-use Rattle.dy_rules.specs.Trees.{Tree, for_tree, ItemTree, body_of, Otherwise, no_otherwise, otherwise, ForClause, then_clause, in_clause, from_clause, for_clauses_of, MaybeLimit, no_limit, a_limit, MaybeTree, no_tree, some_tree, StopTree, stop_of}
+use Rattle.dy_rules.specs.Trees.{Tree, for_tree, ItemTree, body_of, Otherwise, no_otherwise}
+use Rattle.dy_rules.specs.Trees.{otherwise, ForClause, then_clause, in_clause, from_clause}
+use Rattle.dy_rules.specs.Trees.{for_clauses_of, MaybeLimit, no_limit, a_limit, MaybeTree, no_tree}
+use Rattle.dy_rules.specs.Trees.{some_tree, StopTree, stop_of}
 use Rattle.dy_rules.specs.Arguments.{is_comma_fragment}
 use Rattle.dy_rules.specs.Productions.{is_stop_word, is_limit_word}
-use Rattle.dy_rules.specs.Cutting.{Ending, Item, Piece, Pieces, is_splitter, cut, ending, fragments_in, Front, word_of}
+use Rattle.dy_rules.specs.Cutting.{Ending, Item, Piece, Pieces, is_splitter, cut, ending}
+use Rattle.dy_rules.specs.Cutting.{fragments_in, Front, word_of}
 use Rattle.dy_rules.specs.TypeReading.{VariableFront, variable_front}
 use Rattle.dy_rules.specs.Reading.{expression_items}
 use Rattle.dy_rules.specs.Bodies.{is_equals_at, body_items}
@@ -49,7 +54,8 @@ abbrev pub limit_with : Token → Option Range → Tree → Option Range
 limit_with word rest bound = option_map (with_limit word bound) rest
 
 abbrev pub limit_token : SeenFragment → List Item → Option Range → Option Range
-limit_token (one word) items rest = option_and_then (limit_with word rest) (expression_items splittings.Steps items)
+limit_token (one word) items rest =
+    option_and_then (limit_with word rest) (expression_items splittings.Steps items)
 limit_token (group opener inner closer) items rest = None
 
 abbrev pub range_if : Bool → Piece → List Piece → Option Range
@@ -67,7 +73,8 @@ abbrev pub from_with : VariableTree → Option Range → Tree → Option ForClau
 from_with variable range start = option_map (from_of variable start) range
 
 abbrev pub from_at : Splitter → VariableTree → List Item → List Piece → Option ForClause
-from_at splitters.From variable items others = option_and_then (from_with variable (range_in others)) (expression_items splittings.Steps items)
+from_at splitters.From variable items others =
+    option_and_then (from_with variable (range_in others)) (expression_items splittings.Steps items)
 from_at _ variable items others = None
 
 abbrev pub from_in : VariableTree → List Piece → Option ForClause
@@ -78,10 +85,12 @@ abbrev pub then_of : VariableTree → Tree → Tree → ForClause
 then_of variable first next = then_clause variable first next
 
 abbrev pub then_with : VariableTree → List Item → Tree → Option ForClause
-then_with variable items first = option_map (then_of variable first) (expression_items splittings.Steps items)
+then_with variable items first =
+    option_map (then_of variable first) (expression_items splittings.Steps items)
 
 abbrev pub then_at : Splitter → VariableTree → List Item → List Item → Option ForClause
-then_at splitters.Then variable first items = option_and_then (then_with variable items) (expression_items splittings.Steps first)
+then_at splitters.Then variable first items =
+    option_and_then (then_with variable items) (expression_items splittings.Steps first)
 then_at _ variable first items = None
 
 abbrev pub then_in : VariableTree → List Item → List Piece → Option ForClause
@@ -133,7 +142,8 @@ abbrev pub stop_with : Token → Tree → StopTree
 stop_with keyword test = record { keyword = keyword; test = test }
 
 abbrev pub stop_token : SeenFragment → List Item → Option StopTree
-stop_token (one keyword) rest = option_map (stop_with keyword) (expression_items splittings.Steps rest)
+stop_token (one keyword) rest =
+    option_map (stop_with keyword) (expression_items splittings.Steps rest)
 stop_token (group opener inner closer) rest = None
 
 abbrev pub stop_items : List Item → Option StopTree
@@ -143,7 +153,8 @@ stop_items (item ∷ rest) = stop_token item.fragment rest
 -- what stands between the brackets of a `for`
 abbrev pub for_items : List Item → Option (Ending ForClause StopTree)
 for_items [] = Some (record { parts = []; last = None })
-for_items (item ∷ rest) = ending is_stop clause_items stop_items (cut is_comma_fragment false (item ∷ rest))
+for_items (item ∷ rest) =
+    ending is_stop clause_items stop_items (cut is_comma_fragment false (item ∷ rest))
 
 abbrev pub finally_of : List ItemTree → Otherwise
 finally_of trees = otherwise (body_of trees)
@@ -158,13 +169,19 @@ finally_in (piece ∷ []) = finally_at (word_of piece.separator) piece.items
 finally_in (piece ∷ second ∷ others) = None
 
 abbrev pub for_of : Token → Ending ForClause StopTree → List ItemTree → Otherwise → Tree
-for_of word head trees last = for_tree word (for_clauses_of head.parts) (stop_of head.last) (body_of trees) last
+for_of word head trees last =
+    for_tree word (for_clauses_of head.parts) (stop_of head.last) (body_of trees) last
 
-abbrev pub for_body : Token → Ending ForClause StopTree → Option Otherwise → List ItemTree → Option Tree
+abbrev pub for_body : Token → Ending ForClause StopTree → Option Otherwise → List ItemTree
+    → Option Tree
 for_body word head last trees = option_map (for_of word head trees) last
 
 abbrev pub for_pieces : Token → Pieces → Ending ForClause StopTree → Option Tree
-for_pieces word pieces head = option_and_then (for_body word head (finally_in pieces.others)) (body_items splittings.LastPart pieces.first)
+for_pieces word pieces head =
+    option_and_then (for_body word head (finally_in pieces.others))
+    (body_items splittings.LastPart pieces.first)
 
 abbrev pub for_statement : Token → Front → Option Tree
-for_statement word front = option_and_then (for_pieces word (cut (is_splitter splittings.LastPart) false front.rest)) front.first.found.clauses
+for_statement word front =
+    option_and_then (for_pieces word (cut (is_splitter splittings.LastPart) false front.rest))
+    front.first.found.clauses

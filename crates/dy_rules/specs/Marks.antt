@@ -9,7 +9,14 @@ use Rattle.dy_tree.specs.Fragments.{SeenFragment, one, group, pack}
 
 -- a token that stands in no text
 abbrev pub made : TokenKind → List ℕ → Token
-made kind text = record { kind = kind; text = text; number = pos 0; place = record { file = 0; offset = 0 }; origin = 0; «module» = 0 }
+made kind text = record {
+  kind = kind;
+  text = text;
+  number = pos 0;
+  place = record { file = 0; offset = 0 };
+  origin = 0;
+  «module» = 0;
+}
 
 abbrev pub mark : List ℕ → Token
 mark text = made kinds.Punctuation text

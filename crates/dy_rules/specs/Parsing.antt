@@ -1,4 +1,5 @@
--- What the fragments of a top-level form are told to be (own): a form that is within the limit, too deep, or none.
+-- What the fragments of a top-level form are told to be (own): a form that is within the limit, too
+-- deep, or none.
 use Rattle.std.specs.Prelude.{Bool, true, false, nat_lt, List, Option, Some, None}
 use Rattle.dy_tree.specs.Fragments.{SeenFragment}
 use Rattle.dy_rules.specs.Depth.{depth_limit}

@@ -1,5 +1,6 @@
 -- What tokens and groups are to the grammar (DRM 2 and appendix A).
-use Rattle.std.specs.Prelude.{ℕ, Bool, true, false, if◌then◌else◌, List, [], ◌∷◌, codes, Option, Some, None}
+use Rattle.std.specs.Prelude.{ℕ, Bool, true, false, if◌then◌else◌, List, [], ◌∷◌, codes, Option}
+use Rattle.std.specs.Prelude.{Some, None}
 use Rattle.std.specs.List.{list_any}
 use Rattle.dy_tree.specs.declared.token.TokenKind.{TokenKind}
 use Rattle.dy_tree.specs.declared.token.TokenKind.TheVariants as kinds
@@ -39,7 +40,8 @@ name_role token =
     else roles.Named
 
 abbrev pub mark_role : Token → Role
-mark_role token = if is_among (codes "#t" ∷ codes "#f" ∷ []) token then roles.Boolean else roles.Other
+mark_role token = if is_among (codes "#t" ∷ codes "#f" ∷ []) token then roles.Boolean
+    else roles.Other
 
 abbrev pub operator_role : Token → Role
 operator_role token =
@@ -49,7 +51,8 @@ operator_role token =
     else if is_spelled (codes "^") token then roles.Operator precedences.Power
     else if is_among (codes "*" ∷ codes "/" ∷ []) token then roles.Operator precedences.Product
     else if is_spelled (codes "+") token then roles.Operator precedences.Sum
-    else if is_among (codes "=" ∷ codes "==" ∷ codes "<" ∷ codes ">" ∷ codes "<=" ∷ codes ">=" ∷ codes "~=" ∷ codes "~==" ∷ []) token then roles.Operator precedences.Comparison
+    else if is_among (codes "=" ∷ codes "==" ∷ codes "<" ∷ codes ">" ∷ codes "<=" ∷ codes ">="
+    ∷ codes "~=" ∷ codes "~==" ∷ []) token then roles.Operator precedences.Comparison
     else if is_among (codes "&" ∷ codes "|" ∷ []) token then roles.Operator precedences.Logical
     else roles.Other
 
@@ -155,12 +158,17 @@ begun_by opener =
     else begun_by_word opener
 
 abbrev pub closed_by : Bracket → Token → Bracket
-closed_by brackets.Round closer = if is_sign (codes ")") closer then brackets.Round else brackets.Special
-closed_by brackets.Square closer = if is_sign (codes "]") closer then brackets.Square else brackets.Special
+closed_by brackets.Round closer = if is_sign (codes ")") closer then brackets.Round
+    else brackets.Special
+closed_by brackets.Square closer = if is_sign (codes "]") closer then brackets.Square
+    else brackets.Special
 closed_by brackets.Hidden closer = if is_sign [] closer then brackets.Hidden else brackets.Special
-closed_by brackets.SharpRound closer = if is_sign (codes ")") closer then brackets.SharpRound else brackets.Special
-closed_by brackets.SharpSquare closer = if is_sign (codes "]") closer then brackets.SharpSquare else brackets.Special
-closed_by (brackets.Statement kind) closer = if is_word (codes "end") closer then brackets.Statement kind else brackets.Special
+closed_by brackets.SharpRound closer = if is_sign (codes ")") closer then brackets.SharpRound
+    else brackets.Special
+closed_by brackets.SharpSquare closer = if is_sign (codes "]") closer then brackets.SharpSquare
+    else brackets.Special
+closed_by (brackets.Statement kind) closer =
+    if is_word (codes "end") closer then brackets.Statement kind else brackets.Special
 closed_by brackets.Special closer = brackets.Special
 
 abbrev pub bracket_of : Token → Token → Bracket

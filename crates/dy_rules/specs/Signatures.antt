@@ -1,5 +1,6 @@
 -- Parameter lists, results and the bodies behind them, by functions that compute.
-use Rattle.std.specs.Prelude.{Bool, true, false, List, [], ◌∷◌, codes, Option, Some, None, option_map, option_and_then}
+use Rattle.std.specs.Prelude.{Bool, true, false, List, [], ◌∷◌, codes, Option, Some, None}
+use Rattle.std.specs.Prelude.{option_map, option_and_then}
 use Rattle.dy_tree.specs.declared.token.Token.{Token}
 use Rattle.dy_tree.specs.Fragments.{SeenFragment, one, group, SeenFragments, no_fragment}
 use Rattle.dy_tree.specs.declared.roles.Role.{Role}
@@ -9,13 +10,18 @@ use Rattle.dy_tree.specs.declared.brackets.Bracket.TheVariants as brackets
 use Rattle.dy_tree.specs.declared.splitters.Splitting.TheVariants as splittings
 use Rattle.dy_tree.specs.declared.type_words.PartWord.{PartWord}
 use Rattle.dy_tree.specs.declared.type_words.PartWord.TheVariants as part_words
-use Rattle.dy_rules.specs.Types.{is_identity, Single, VariableTree, RequiredTree, required_variable, required_single, ResultTree, several_results, one_result, part_word}
-use Rattle.dy_rules.specs.Trees.{Tree, MaybeTree, no_tree, some_tree, Key, a_key, KeysTree, Listed, ItemTree}
+use Rattle.dy_rules.specs.Types.{is_identity, Single, VariableTree, RequiredTree, required_variable}
+use Rattle.dy_rules.specs.Types.{required_single, ResultTree, several_results, one_result}
+use Rattle.dy_rules.specs.Types.{part_word}
+use Rattle.dy_rules.specs.Trees.{Tree, MaybeTree, no_tree, some_tree, Key, a_key, KeysTree, Listed}
+use Rattle.dy_rules.specs.Trees.{ItemTree}
 use Rattle.dy_rules.specs.Roles.{role_of, bracket_of}
 use Rattle.dy_rules.specs.Arguments.{is_comma_fragment}
 use Rattle.dy_rules.specs.Productions.{list_of}
-use Rattle.dy_rules.specs.Cutting.{MethodFound, NamedFound, Ending, Found, Item, Piece, Pieces, is_semicolon, is_arrow, cut, ending, fragments_in, Front, headed}
-use Rattle.dy_rules.specs.TypeReading.{single_in, VariableFront, variable_front, variable_items, marked, name_items}
+use Rattle.dy_rules.specs.Cutting.{MethodFound, NamedFound, Ending, Found, Item, Piece, Pieces}
+use Rattle.dy_rules.specs.Cutting.{is_semicolon, is_arrow, cut, ending, fragments_in, Front, headed}
+use Rattle.dy_rules.specs.TypeReading.{single_in, VariableFront, variable_front, variable_items}
+use Rattle.dy_rules.specs.TypeReading.{marked, name_items}
 use Rattle.dy_rules.specs.Reading.{expression_items}
 use Rattle.dy_rules.specs.Bodies.{is_equals_at, body_items}
 
@@ -26,7 +32,8 @@ rest_variable [] = None
 rest_variable (item ∷ rest) = variable_items rest
 
 abbrev pub give_items : List Item → Option (Ending VariableTree VariableTree)
-give_items items = ending (marked (codes "#rest")) variable_items rest_variable (cut is_comma_fragment false items)
+give_items items = ending (marked (codes "#rest")) variable_items rest_variable
+    (cut is_comma_fragment false items)
 
 abbrev pub several_given : Ending VariableTree VariableTree → ResultTree
 several_given given = several_results given.parts given.last
@@ -40,8 +47,10 @@ abbrev pub results_in_front : List Item → ResultTree → ResultsFront
 results_in_front rest results = record { results = Some results; rest = rest }
 
 abbrev pub given_in : Bracket → SeenFragments → Found → List Item → Option ResultsFront
-given_in brackets.Round no_fragment found rest = Some (results_in_front rest (several_results [] None))
-given_in brackets.Round inner found rest = option_map (results_in_front rest) (option_map several_given found.given)
+given_in brackets.Round no_fragment found rest =
+    Some (results_in_front rest (several_results [] None))
+given_in brackets.Round inner found rest =
+    option_map (results_in_front rest) (option_map several_given found.given)
 given_in _ inner found rest = None
 
 abbrev pub variable_result : VariableFront → ResultsFront
@@ -49,7 +58,8 @@ variable_result front = results_in_front front.rest (one_result front.variable)
 
 abbrev pub results_at : SeenFragment → Item → List Item → Option ResultsFront
 results_at (one token) item rest = option_map variable_result (variable_front (item ∷ rest))
-results_at (group opener inner closer) item rest = given_in (bracket_of opener closer) inner item.found rest
+results_at (group opener inner closer) item rest =
+    given_in (bracket_of opener closer) inner item.found rest
 
 abbrev pub results_behind : List Item → Option ResultsFront
 results_behind [] = None
@@ -79,12 +89,14 @@ single_at (group opener inner closer) single = None
 
 abbrev pub required_if : Bool → Item → Item → List Item → Option RequiredTree
 required_if true first second rest = single_at first.fragment (single_in (fragments_in rest))
-required_if false first second rest = option_map required_variable (variable_items (first ∷ second ∷ rest))
+required_if false first second rest =
+    option_map required_variable (variable_items (first ∷ second ∷ rest))
 
 abbrev pub required_items : List Item → Option RequiredTree
 required_items [] = None
 required_items (first ∷ []) = option_map required_variable (variable_items (first ∷ []))
-required_items (first ∷ second ∷ rest) = required_if (is_identity_at second.fragment) first second rest
+required_items (first ∷ second ∷ rest) =
+    required_if (is_identity_at second.fragment) first second rest
 
 abbrev pub initial_of : Tree → MaybeTree
 initial_of tree = some_tree tree
@@ -167,7 +179,8 @@ with_next token _ _ found = None
 abbrev pub next_before : Token → Listed → Option Listed
 next_before token found = with_next token found.required found.next found
 
-abbrev pub with_rest : Token → List RequiredTree → Option Token → Option Token → Listed → Option Listed
+abbrev pub with_rest : Token → List RequiredTree → Option Token → Option Token → Listed
+    → Option Listed
 with_rest token [] None None found = Some (list_of [] None (Some token) found.keys)
 with_rest token _ _ _ found = None
 
@@ -175,7 +188,8 @@ abbrev pub rest_before : Token → Listed → Option Listed
 rest_before token found = with_rest token found.required found.next found.rest found
 
 abbrev pub required_before : RequiredTree → Listed → Option Listed
-required_before required found = Some (list_of (required ∷ found.required) found.next found.rest found.keys)
+required_before required found =
+    Some (list_of (required ∷ found.required) found.next found.rest found.keys)
 
 -- how a part begins
 abbrev pub part_kind : SeenFragment → PartWord
@@ -196,10 +210,13 @@ abbrev pub after_required : Option Listed → RequiredTree → Option Listed
 after_required found required = option_and_then (required_before required) found
 
 abbrev pub part_with : PartWord → Item → List Item → List Piece → Option Listed → Option Listed
-part_with part_words.Next item rest others found = option_and_then (after_next found) (name_items (item ∷ rest))
-part_with part_words.Rest item rest others found = option_and_then (after_rest found) (name_items (item ∷ rest))
+part_with part_words.Next item rest others found =
+    option_and_then (after_next found) (name_items (item ∷ rest))
+part_with part_words.Rest item rest others found =
+    option_and_then (after_rest found) (name_items (item ∷ rest))
 part_with part_words.Key item rest others found = option_map listed_keys (keys_from rest others)
-part_with _ item rest others found = option_and_then (after_required found) (required_items (item ∷ rest))
+part_with _ item rest others found =
+    option_and_then (after_required found) (required_items (item ∷ rest))
 
 abbrev pub part_at : List Item → List Piece → Option Listed → Option Listed
 part_at [] others found = None
@@ -231,7 +248,9 @@ abbrev pub method_of : Listed → Option ResultTree → List ItemTree → Method
 method_of found results trees = record { found = found; results = results; trees = trees }
 
 abbrev pub method_with : Listed → ResultsFront → Option MethodFound
-method_with found front = option_map (method_of found front.results) (body_items splittings.Nothing (without_front front.rest))
+method_with found front =
+    option_map (method_of found front.results)
+    (body_items splittings.Nothing (without_front front.rest))
 
 abbrev pub method_listed : List Item → Listed → Option MethodFound
 method_listed rest found = option_and_then (method_with found) (results_front rest)

@@ -20,16 +20,20 @@ mutual
     list : (opener : Token) (items : Constants) (tail : Tail) → Tree
     vector : (opener : Token) (items : Constants) → Tree
     begin_tree : (word : Token) (body : Body) → Tree
-    if_tree : (word : Token) (test : Tree) (body : Body) (alternatives : Alternatives) (otherwise : Otherwise) → Tree
+    if_tree : (word : Token) (test : Tree) (body : Body) (alternatives : Alternatives)
+        (otherwise : Otherwise) → Tree
     guarded : (guard : Guard) (word : Token) (test : Tree) (body : Body) → Tree
     case_tree : (word : Token) (arms : Arms) (otherwise : Otherwise) → Tree
-    select_tree : (word : Token) (value : Tree) (test : MaybeTree) (arms : Arms) (otherwise : Otherwise) → Tree
+    select_tree : (word : Token) (value : Tree) (test : MaybeTree) (arms : Arms)
+        (otherwise : Otherwise) → Tree
     block_tree : (word : Token) (exit : Option Token) (body : Body) (clauses : BlockClauses) → Tree
-    for_tree : (word : Token) (clauses : ForClauses) (stop : MaybeStop) (body : Body) (finally : Otherwise) → Tree
+    for_tree : (word : Token) (clauses : ForClauses) (stop : MaybeStop) (body : Body)
+        (finally : Otherwise) → Tree
     method_tree : (word : Token) (parameters : Parameters) (body : Body) → Tree
 
   pub data Parameters : Type 0 where
-    parameters : (required : List RequiredTree) (next : Option Token) (rest : Option Token) (keys : MaybeKeys) (results : Option ResultTree) → Parameters
+    parameters : (required : List RequiredTree) (next : Option Token) (rest : Option Token)
+        (keys : MaybeKeys) (results : Option ResultTree) → Parameters
 
   pub data MaybeKeys : Type 0 where
     no_keys : MaybeKeys
@@ -47,7 +51,8 @@ mutual
     method_and : (first : LocalMethod) (rest : LocalMethods) → LocalMethods
 
   pub data LocalMethod : Type 0 where
-    local_method : (word : Token) (token : Token) (parameters : Parameters) (body : Body) → LocalMethod
+    local_method : (word : Token) (token : Token) (parameters : Parameters) (body : Body)
+        → LocalMethod
 
   pub data BlockClauses : Type 0 where
     no_clause : BlockClauses
@@ -65,7 +70,8 @@ mutual
   pub data ForClause : Type 0 where
     then_clause : (variable : VariableTree) (first : Tree) (next : Tree) → ForClause
     in_clause : (variable : VariableTree) (collection : Tree) → ForClause
-    from_clause : (variable : VariableTree) (start : Tree) (limit : MaybeLimit) (step : MaybeTree) → ForClause
+    from_clause : (variable : VariableTree) (start : Tree) (limit : MaybeLimit) (step : MaybeTree)
+        → ForClause
 
   -- `to`, `above` or `below`
   pub data MaybeLimit : Type 0 where
@@ -190,4 +196,5 @@ pub record Listed : Type 0 where
   pub keys : Option KeysTree
 
 abbrev pub parameters_of : Listed → Option ResultTree → Parameters
-parameters_of found results = parameters found.required found.next found.rest (maybe_keys found.keys) results
+parameters_of found results =
+    parameters found.required found.next found.rest (maybe_keys found.keys) results

@@ -1,5 +1,6 @@
 -- The types and variables that items stand for, by functions that compute.
-use Rattle.std.specs.Prelude.{ℕ, Bool, true, false, List, [], ◌∷◌, codes, Option, Some, None, option_map, option_and_then}
+use Rattle.std.specs.Prelude.{ℕ, Bool, true, false, List, [], ◌∷◌, codes, Option, Some, None}
+use Rattle.std.specs.Prelude.{option_map, option_and_then}
 use Rattle.dy_tree.specs.declared.token.Token.{Token}
 use Rattle.dy_tree.specs.declared.types.IntegerForm.{IntegerForm}
 use Rattle.dy_tree.specs.Fragments.{SeenFragment, one, group, SeenFragments, no_fragment, row}
@@ -14,8 +15,12 @@ use Rattle.dy_rules.specs.Roles.{role_of, negative, bracket_of}
 use Rattle.dy_rules.specs.Constants.{token_literal}
 use Rattle.dy_rules.specs.Arguments.{is_comma_fragment}
 use Rattle.dy_rules.specs.Tests.{if_passes}
-use Rattle.dy_rules.specs.Types.{is_mark, Single, literal_single, empty_single, name_single, Bound, is_bound, each_once, TypeTree, named_type, singleton_type, union_type, limited_type, types_of, type_word, VariableTree, TargetTree, one_target, several, is_colons_role}
-use Rattle.dy_rules.specs.Cutting.{Limits, Ending, Found, Item, Piece, Pieces, cut, each, each_other, fragments_in, ending}
+use Rattle.dy_rules.specs.Types.{is_mark, Single, literal_single, empty_single, name_single, Bound}
+use Rattle.dy_rules.specs.Types.{is_bound, each_once, TypeTree, named_type, singleton_type}
+use Rattle.dy_rules.specs.Types.{union_type, limited_type, types_of, type_word, VariableTree}
+use Rattle.dy_rules.specs.Types.{TargetTree, one_target, several, is_colons_role}
+use Rattle.dy_rules.specs.Cutting.{Limits, Ending, Found, Item, Piece, Pieces, cut, each}
+use Rattle.dy_rules.specs.Cutting.{each_other, fragments_in, ending}
 
 abbrev pub single_token : Role → Token → Option Single
 single_token roles.Named token = Some (name_single token)
@@ -40,12 +45,14 @@ plain_integer roles.Integer digits = Some (record { minus = None; digits = digit
 plain_integer _ digits = None
 
 abbrev pub negative_integer_of : Role → Role → Token → Token → Option IntegerForm
-negative_integer_of roles.Minus roles.Integer sign digits = Some (record { minus = Some sign; digits = digits })
+negative_integer_of roles.Minus roles.Integer sign digits =
+    Some (record { minus = Some sign; digits = digits })
 negative_integer_of _ _ sign digits = None
 
 abbrev pub integer_in : List SeenFragment → Option IntegerForm
 integer_in (one digits ∷ []) = plain_integer (role_of digits) digits
-integer_in (one sign ∷ one digits ∷ []) = negative_integer_of (role_of sign) (role_of digits) sign digits
+integer_in (one sign ∷ one digits ∷ []) =
+    negative_integer_of (role_of sign) (role_of digits) sign digits
 integer_in _ = None
 
 abbrev pub bound_of : Token → IntegerForm → Bound
@@ -105,14 +112,16 @@ limited_of word limits = limited_type word limits.class limits.bounds
 
 -- brackets of one of the three forms
 abbrev pub form_type : TypeWord → Token → SeenFragments → Found → Option TypeTree
-form_type type_words.Singleton word inner found = option_map (singleton_type word) (single_in (row inner))
+form_type type_words.Singleton word inner found =
+    option_map (singleton_type word) (single_in (row inner))
 form_type type_words.Union word inner found = option_map (union_of word) found.types
 form_type type_words.Limited word inner found = option_map (limited_of word) found.limits
 form_type type_words.Absent word inner found = None
 
 abbrev pub word_front : TypeWord → Token → SeenFragments → Item → List Item → Option TypeFront
 word_front type_words.Absent word inner item rest = name_front word (item ∷ rest)
-word_front form word inner item rest = option_map (in_front rest) (form_type form word inner item.found)
+word_front form word inner item rest =
+    option_map (in_front rest) (form_type form word inner item.found)
 
 abbrev pub group_front : Bracket → Token → SeenFragments → Item → List Item → Option TypeFront
 group_front brackets.Round word inner item rest = word_front (type_word word) word inner item rest
@@ -120,7 +129,8 @@ group_front _ word inner item rest = name_front word (item ∷ rest)
 
 abbrev pub front_behind : Token → SeenFragment → Item → List Item → Option TypeFront
 front_behind word (one token) item rest = name_front word (item ∷ rest)
-front_behind word (group opener inner closer) item rest = group_front (bracket_of opener closer) word inner item rest
+front_behind word (group opener inner closer) item rest =
+    group_front (bracket_of opener closer) word inner item rest
 
 abbrev pub type_from : Token → List Item → Option TypeFront
 type_from word [] = name_front word []
@@ -158,10 +168,12 @@ pub record VariableFront : Type 0 where
   pub rest : List Item
 
 abbrev pub untyped_front : Token → List Item → VariableFront
-untyped_front token rest = record { variable = record { variable = token; declared = None }; rest = rest }
+untyped_front token rest =
+    record { variable = record { variable = token; declared = None }; rest = rest }
 
 abbrev pub typed_front : Token → TypeFront → VariableFront
-typed_front token front = record { variable = record { variable = token; declared = Some front.type }; rest = front.rest }
+typed_front token front =
+    record { variable = record { variable = token; declared = Some front.type }; rest = front.rest }
 
 abbrev pub is_colons : SeenFragment → Bool
 is_colons (one token) = is_colons_role (role_of token)
@@ -223,14 +235,16 @@ bind_items items = bound_pieces (cut is_comma_fragment false items)
 abbrev pub several_of : Ending VariableTree Token → TargetTree
 several_of bound = several bound.parts bound.last
 
-abbrev pub target_in : Bracket → SeenFragments → Option (Ending VariableTree Token) → Option TargetTree
+abbrev pub target_in : Bracket → SeenFragments → Option (Ending VariableTree Token)
+    → Option TargetTree
 target_in brackets.Round no_fragment bound = Some (several [] None)
 target_in brackets.Round inner bound = option_map several_of bound
 target_in _ inner bound = None
 
 abbrev pub target_group : SeenFragment → Found → Option TargetTree
 target_group (one token) found = None
-target_group (group opener inner closer) found = target_in (bracket_of opener closer) inner found.bound
+target_group (group opener inner closer) found =
+    target_in (bracket_of opener closer) inner found.bound
 
 abbrev pub target_one : Item → List Item → Option TargetTree
 target_one item rest = option_map one_target (variable_items (item ∷ rest))

@@ -2,8 +2,13 @@
 use Rattle.std.specs.Prelude.{List, [], ◌∷◌, ◌++◌, Option, Some, None}
 use Rattle.dy_tree.specs.declared.token.Token.{Token}
 use Rattle.dy_tree.specs.Fragments.{SeenFragment, one}
-use Rattle.dy_rules.specs.Marks.{in_round, written_integer, written_literal, comma_mark, list_group, colons_mark, rest_mark, next_mark, arrow_mark, identity_mark}
-use Rattle.dy_rules.specs.Types.{Single, literal_single, empty_single, name_single, Bound, TypeTree, named_type, singleton_type, union_type, limited_type, TypeTrees, no_type, type_and, VariableTree, TargetTree, one_target, several, RequiredTree, required_variable, required_single, ResultTree, several_results, one_result}
+use Rattle.dy_rules.specs.Marks.{in_round, written_integer, written_literal, comma_mark, list_group}
+use Rattle.dy_rules.specs.Marks.{colons_mark, rest_mark, next_mark, arrow_mark, identity_mark}
+use Rattle.dy_rules.specs.Types.{Single, literal_single, empty_single, name_single, Bound, TypeTree}
+use Rattle.dy_rules.specs.Types.{named_type, singleton_type, union_type, limited_type, TypeTrees}
+use Rattle.dy_rules.specs.Types.{no_type, type_and, VariableTree, TargetTree, one_target, several}
+use Rattle.dy_rules.specs.Types.{RequiredTree, required_variable, required_single, ResultTree}
+use Rattle.dy_rules.specs.Types.{several_results, one_result}
 
 abbrev pub written_single : Single → List SeenFragment
 written_single (literal_single form) = written_literal form
@@ -12,14 +17,17 @@ written_single (name_single token) = one token ∷ []
 
 abbrev pub written_bounds : List Bound → List SeenFragment
 written_bounds [] = []
-written_bounds (bound ∷ rest) = comma_mark ∷ one bound.keyword ∷ (written_integer bound.number.minus bound.number.digits ++ written_bounds rest)
+written_bounds (bound ∷ rest) =
+    comma_mark ∷ one bound.keyword
+    ∷ (written_integer bound.number.minus bound.number.digits ++ written_bounds rest)
 
 abbrev mutual
   pub written_type : TypeTree → List SeenFragment
   written_type (named_type token) = one token ∷ []
   written_type (singleton_type word single) = one word ∷ in_round (written_single single) ∷ []
   written_type (union_type word types) = one word ∷ in_round (written_types types) ∷ []
-  written_type (limited_type word class bounds) = one word ∷ in_round (one class ∷ written_bounds bounds) ∷ []
+  written_type (limited_type word class bounds) =
+      one word ∷ in_round (one class ∷ written_bounds bounds) ∷ []
 
   pub written_types : TypeTrees → List SeenFragment
   written_types no_type = []
@@ -40,8 +48,10 @@ abbrev pub written_bound : List VariableTree → Option Token → List SeenFragm
 written_bound [] None = []
 written_bound [] (Some rest) = rest_mark ∷ one rest ∷ []
 written_bound (variable ∷ []) None = written_variable variable
-written_bound (variable ∷ []) (Some rest) = written_variable variable ++ comma_mark ∷ rest_mark ∷ one rest ∷ []
-written_bound (variable ∷ second ∷ others) rest = written_variable variable ++ comma_mark ∷ written_bound (second ∷ others) rest
+written_bound (variable ∷ []) (Some rest) =
+    written_variable variable ++ comma_mark ∷ rest_mark ∷ one rest ∷ []
+written_bound (variable ∷ second ∷ others) rest =
+    written_variable variable ++ comma_mark ∷ written_bound (second ∷ others) rest
 
 abbrev pub written_target : TargetTree → List SeenFragment
 written_target (one_target variable) = written_variable variable
@@ -51,12 +61,15 @@ abbrev pub written_given : List VariableTree → Option VariableTree → List Se
 written_given [] None = []
 written_given [] (Some rest) = rest_mark ∷ written_variable rest
 written_given (variable ∷ []) None = written_variable variable
-written_given (variable ∷ []) (Some rest) = written_variable variable ++ comma_mark ∷ rest_mark ∷ written_variable rest
-written_given (variable ∷ second ∷ others) rest = written_variable variable ++ comma_mark ∷ written_given (second ∷ others) rest
+written_given (variable ∷ []) (Some rest) =
+    written_variable variable ++ comma_mark ∷ rest_mark ∷ written_variable rest
+written_given (variable ∷ second ∷ others) rest =
+    written_variable variable ++ comma_mark ∷ written_given (second ∷ others) rest
 
 abbrev pub written_results : Option ResultTree → List SeenFragment
 written_results None = []
-written_results (Some (several_results variables rest)) = arrow_mark ∷ in_round (written_given variables rest) ∷ []
+written_results (Some (several_results variables rest)) =
+    arrow_mark ∷ in_round (written_given variables rest) ∷ []
 written_results (Some (one_result variable)) = arrow_mark ∷ written_variable variable
 
 abbrev pub written_required : RequiredTree → List SeenFragment
@@ -77,5 +90,7 @@ next_joined (Some token) (first ∷ rest) = next_mark ∷ one token ∷ comma_ma
 abbrev pub required_joined : List RequiredTree → List SeenFragment → List SeenFragment
 required_joined [] rest = rest
 required_joined (required ∷ []) [] = written_required required
-required_joined (required ∷ []) (first ∷ rest) = written_required required ++ comma_mark ∷ first ∷ rest
-required_joined (required ∷ second ∷ others) rest = written_required required ++ comma_mark ∷ required_joined (second ∷ others) rest
+required_joined (required ∷ []) (first ∷ rest) =
+    written_required required ++ comma_mark ∷ first ∷ rest
+required_joined (required ∷ second ∷ others) rest =
+    written_required required ++ comma_mark ∷ required_joined (second ∷ others) rest

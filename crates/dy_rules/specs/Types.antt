@@ -8,7 +8,8 @@
 --     required = var | NAME "==" single
 --     results  = "(" [ rvars ] ")" | var
 --     rvars    = var { "," var } [ "," "#rest" var ] | "#rest" var
-use Rattle.std.specs.Prelude.{◌≡◌, ℕ, Bool, true, false, not, ◌&&◌, ◌||◌, if◌then◌else◌, List, [], ◌∷◌, ◌++◌, codes, Option, Some, None}
+use Rattle.std.specs.Prelude.{◌≡◌, ℕ, Bool, true, false, not, ◌&&◌, ◌||◌, if◌then◌else◌, List, []}
+use Rattle.std.specs.Prelude.{◌∷◌, ◌++◌, codes, Option, Some, None}
 use Rattle.std.specs.List.{list_any}
 use Rattle.dy_tree.specs.declared.token.TokenKind.{TokenKind}
 use Rattle.dy_tree.specs.declared.token.TokenKind.TheVariants as kinds
@@ -69,9 +70,12 @@ pub data Single : Type 0 where
   name_single : (token : Token) → Single
 
 pub data IsSingle : Single → List SeenFragment → Type 0 where
-  of_literal : (form : LiteralForm) (fragments : List SeenFragment) → IsLiteral form fragments → IsSingle (literal_single form) fragments
-  of_empty_list : (opener closer : Token) → bracket_of opener closer ≡ brackets.SharpRound → IsSingle (empty_single opener) (group opener no_fragment closer ∷ [])
-  of_name : (token : Token) → role_of token ≡ roles.Named → IsSingle (name_single token) (one token ∷ [])
+  of_literal : (form : LiteralForm) (fragments : List SeenFragment) → IsLiteral form fragments
+      → IsSingle (literal_single form) fragments
+  of_empty_list : (opener closer : Token) → bracket_of opener closer ≡ brackets.SharpRound
+      → IsSingle (empty_single opener) (group opener no_fragment closer ∷ [])
+  of_name : (token : Token) → role_of token ≡ roles.Named
+      → IsSingle (name_single token) (one token ∷ [])
 
 -- `min:` or `max:` with its number
 pub record Bound : Type 0 where
@@ -82,22 +86,29 @@ abbrev pub is_bound : Token → Bool
 is_bound token = is_symbol_of (codes "min") token || is_symbol_of (codes "max") token
 
 pub data IsInteger : IntegerForm → List SeenFragment → Type 0 where
-  plain_number : (digits : Token) → role_of digits ≡ roles.Integer → IsInteger (record { minus = None; digits = digits }) (one digits ∷ [])
-  negative_number : (sign digits : Token) → role_of sign ≡ roles.Minus → role_of digits ≡ roles.Integer → IsInteger (record { minus = Some sign; digits = digits }) (one sign ∷ one digits ∷ [])
+  plain_number : (digits : Token) → role_of digits ≡ roles.Integer
+      → IsInteger (record { minus = None; digits = digits }) (one digits ∷ [])
+  negative_number : (sign digits : Token) → role_of sign ≡ roles.Minus
+      → role_of digits ≡ roles.Integer
+      → IsInteger (record { minus = Some sign; digits = digits }) (one sign ∷ one digits ∷ [])
 
 abbrev pub is_bound_of : List ℕ → Bound → Bool
 is_bound_of text bound = is_spelled text bound.keyword
 
 -- `min:` once at most, and `max:` too, in either order
 abbrev pub each_once : List Bound → Bool
-each_once bounds = at_most_one (is_bound_of (codes "min")) bounds && at_most_one (is_bound_of (codes "max")) bounds
+each_once bounds = at_most_one (is_bound_of (codes "min")) bounds
+    && at_most_one (is_bound_of (codes "max")) bounds
 
 -- each bound behind a comma
 pub data AreBounds : List Bound → List SeenFragment → Type 0 where
   no_bound : AreBounds [] []
-  bound_and : (separator keyword : Token) (number : IntegerForm) (bounds : List Bound) (digits after all : List SeenFragment)
-      → all ≡ one separator ∷ one keyword ∷ (digits ++ after) → role_of separator ≡ roles.Comma → is_bound keyword ≡ true
-      → IsInteger number digits → AreBounds bounds after → AreBounds (record { keyword = keyword; number = number } ∷ bounds) all
+  bound_and : (separator keyword : Token) (number : IntegerForm) (bounds : List Bound)
+      (digits after all : List SeenFragment)
+      → all ≡ one separator ∷ one keyword ∷ (digits ++ after) → role_of separator ≡ roles.Comma
+      → is_bound keyword ≡ true
+      → IsInteger number digits → AreBounds bounds after
+      → AreBounds (record { keyword = keyword; number = number } ∷ bounds) all
 
 mutual
   pub data TypeTree : Type 0 where
@@ -115,7 +126,10 @@ types_of [] = no_type
 types_of (first ∷ rest) = type_and first (types_of rest)
 
 abbrev pub spelled_type_word : Token → TypeWord
-spelled_type_word token = if is_spelled (codes "singleton") token then type_words.Singleton else if is_spelled (codes "type-union") token then type_words.Union else if is_spelled (codes "limited") token then type_words.Limited else type_words.Absent
+spelled_type_word token =
+    if is_spelled (codes "singleton") token then type_words.Singleton
+    else if is_spelled (codes "type-union") token then type_words.Union
+    else if is_spelled (codes "limited") token then type_words.Limited else type_words.Absent
 
 -- An escaped name is none of them.
 abbrev pub type_word_by : TokenKind → Token → TypeWord
@@ -130,17 +144,34 @@ pub data TypeSort : Type 0 where
   some_types : (types : List TypeTree) → TypeSort
 
 pub data IsType : TypeSort → List SeenFragment → Type 0 where
-  by_name : (token : Token) → role_of token ≡ roles.Named → IsType (a_type (named_type token)) (one token ∷ [])
-  by_singleton : (word : Token) (single : Single) (opener : Token) (inner : SeenFragments) (closer : Token) → role_of word ≡ roles.Named → type_word word ≡ type_words.Singleton → bracket_of opener closer ≡ brackets.Round
-      → IsSingle single (row inner) → IsType (a_type (singleton_type word single)) (one word ∷ group opener inner closer ∷ [])
-  by_union : (word : Token) (types : List TypeTree) (opener : Token) (inner : SeenFragments) (closer : Token) → role_of word ≡ roles.Named → type_word word ≡ type_words.Union → bracket_of opener closer ≡ brackets.Round
-      → IsType (some_types types) (row inner) → IsType (a_type (union_type word (types_of types))) (one word ∷ group opener inner closer ∷ [])
-  by_limits : (word class : Token) (bounds : List Bound) (opener : Token) (inner : SeenFragments) (closer : Token) (after : List SeenFragment)
-      → role_of word ≡ roles.Named → type_word word ≡ type_words.Limited → bracket_of opener closer ≡ brackets.Round → row inner ≡ one class ∷ after → role_of class ≡ roles.Named → is_spelled (codes "<integer>") class ≡ true
-      → AreBounds bounds after → each_once bounds ≡ true → IsType (a_type (limited_type word class bounds)) (one word ∷ group opener inner closer ∷ [])
-  one_type : (type : TypeTree) (fragments : List SeenFragment) → IsType (a_type type) fragments → IsType (some_types (type ∷ [])) fragments
-  more_types : (type : TypeTree) (others : List TypeTree) (separator : Token) (before after all : List SeenFragment) → all ≡ before ++ one separator ∷ after → role_of separator ≡ roles.Comma
-      → IsType (a_type type) before → IsType (some_types others) after → IsType (some_types (type ∷ others)) all
+  by_name : (token : Token) → role_of token ≡ roles.Named
+      → IsType (a_type (named_type token)) (one token ∷ [])
+  by_singleton : (word : Token) (single : Single) (opener : Token) (inner : SeenFragments)
+      (closer : Token) → role_of word ≡ roles.Named → type_word word ≡ type_words.Singleton
+      → bracket_of opener closer ≡ brackets.Round
+      → IsSingle single (row inner)
+      → IsType (a_type (singleton_type word single)) (one word ∷ group opener inner closer ∷ [])
+  by_union : (word : Token) (types : List TypeTree) (opener : Token) (inner : SeenFragments)
+      (closer : Token) → role_of word ≡ roles.Named → type_word word ≡ type_words.Union
+      → bracket_of opener closer ≡ brackets.Round
+      → IsType (some_types types) (row inner)
+      → IsType (a_type (union_type word (types_of types)))
+      (one word ∷ group opener inner closer ∷ [])
+  by_limits : (word class : Token) (bounds : List Bound) (opener : Token) (inner : SeenFragments)
+      (closer : Token) (after : List SeenFragment)
+      → role_of word ≡ roles.Named → type_word word ≡ type_words.Limited
+      → bracket_of opener closer ≡ brackets.Round → row inner ≡ one class ∷ after
+      → role_of class ≡ roles.Named → is_spelled (codes "<integer>") class ≡ true
+      → AreBounds bounds after → each_once bounds ≡ true
+      → IsType (a_type (limited_type word class bounds))
+      (one word ∷ group opener inner closer ∷ [])
+  one_type : (type : TypeTree) (fragments : List SeenFragment) → IsType (a_type type) fragments
+      → IsType (some_types (type ∷ [])) fragments
+  more_types : (type : TypeTree) (others : List TypeTree) (separator : Token)
+      (before after all : List SeenFragment) → all ≡ before ++ one separator ∷ after
+      → role_of separator ≡ roles.Comma
+      → IsType (a_type type) before → IsType (some_types others) after
+      → IsType (some_types (type ∷ others)) all
 
 abbrev pub is_round : Bracket → Bool
 is_round brackets.Round = true
@@ -169,9 +200,13 @@ declares_brackets None = false
 declares_brackets (Some type) = takes_brackets type
 
 pub data IsVariable : VariableTree → List SeenFragment → Type 0 where
-  untyped : (token : Token) → role_of token ≡ roles.Named → IsVariable (record { variable = token; declared = None }) (one token ∷ [])
-  typed : (token sign : Token) (type : TypeTree) (after : List SeenFragment) → role_of token ≡ roles.Named → role_of sign ≡ roles.Colons
-      → IsType (a_type type) after → IsVariable (record { variable = token; declared = Some type }) (one token ∷ one sign ∷ after)
+  untyped : (token : Token) → role_of token ≡ roles.Named
+      → IsVariable (record { variable = token; declared = None }) (one token ∷ [])
+  typed : (token sign : Token) (type : TypeTree) (after : List SeenFragment)
+      → role_of token ≡ roles.Named → role_of sign ≡ roles.Colons
+      → IsType (a_type type) after
+      → IsVariable (record { variable = token; declared = Some type })
+      (one token ∷ one sign ∷ after)
 
 abbrev pub is_splitting : Splitting → SeenFragment → Bool
 is_splitting words (one token) = splits words token
@@ -184,9 +219,13 @@ binds_plainly words (first ∷ rest) = not (list_any (is_splitting words) rest)
 
 -- variables with commas between them, the last of which may take the rest
 pub data Bind : List VariableTree → Option Token → List SeenFragment → Type 0 where
-  last_bound : (variable : VariableTree) (fragments : List SeenFragment) → IsVariable variable fragments → Bind (variable ∷ []) None fragments
-  rest_bound : (mark rest : Token) → is_mark (codes "#rest") mark ≡ true → role_of rest ≡ roles.Named → Bind [] (Some rest) (one mark ∷ one rest ∷ [])
-  more_bound : (variable : VariableTree) (others : List VariableTree) (rest : Option Token) (separator : Token) (before after all : List SeenFragment) → all ≡ before ++ one separator ∷ after → role_of separator ≡ roles.Comma
+  last_bound : (variable : VariableTree) (fragments : List SeenFragment)
+      → IsVariable variable fragments → Bind (variable ∷ []) None fragments
+  rest_bound : (mark rest : Token) → is_mark (codes "#rest") mark ≡ true
+      → role_of rest ≡ roles.Named → Bind [] (Some rest) (one mark ∷ one rest ∷ [])
+  more_bound : (variable : VariableTree) (others : List VariableTree) (rest : Option Token)
+      (separator : Token) (before after all : List SeenFragment)
+      → all ≡ before ++ one separator ∷ after → role_of separator ≡ roles.Comma
       → IsVariable variable before → Bind others rest after → Bind (variable ∷ others) rest all
 
 pub data TargetTree : Type 0 where
@@ -194,19 +233,26 @@ pub data TargetTree : Type 0 where
   several : (variables : List VariableTree) (rest : Option Token) → TargetTree
 
 pub data IsTarget : TargetTree → List SeenFragment → Type 0 where
-  by_variable : (variable : VariableTree) (fragments : List SeenFragment) → IsVariable variable fragments → IsTarget (one_target variable) fragments
-  by_nothing : (opener closer : Token) → bracket_of opener closer ≡ brackets.Round → IsTarget (several [] None) (group opener no_fragment closer ∷ [])
-  by_brackets : (variables : List VariableTree) (rest : Option Token) (opener : Token) (inner : SeenFragments) (closer : Token) → bracket_of opener closer ≡ brackets.Round
-      → Bind variables rest (row inner) → IsTarget (several variables rest) (group opener inner closer ∷ [])
+  by_variable : (variable : VariableTree) (fragments : List SeenFragment)
+      → IsVariable variable fragments → IsTarget (one_target variable) fragments
+  by_nothing : (opener closer : Token) → bracket_of opener closer ≡ brackets.Round
+      → IsTarget (several [] None) (group opener no_fragment closer ∷ [])
+  by_brackets : (variables : List VariableTree) (rest : Option Token) (opener : Token)
+      (inner : SeenFragments) (closer : Token) → bracket_of opener closer ≡ brackets.Round
+      → Bind variables rest (row inner)
+      → IsTarget (several variables rest) (group opener inner closer ∷ [])
 
 pub data RequiredTree : Type 0 where
   required_variable : (variable : VariableTree) → RequiredTree
   required_single : (token : Token) (single : Single) → RequiredTree
 
 pub data IsRequired : RequiredTree → List SeenFragment → Type 0 where
-  any_value : (variable : VariableTree) (fragments : List SeenFragment) → IsVariable variable fragments → IsRequired (required_variable variable) fragments
-  one_value : (token sign : Token) (single : Single) (after : List SeenFragment) → role_of token ≡ roles.Named → is_identity sign ≡ true
-      → IsSingle single after → IsRequired (required_single token single) (one token ∷ one sign ∷ after)
+  any_value : (variable : VariableTree) (fragments : List SeenFragment)
+      → IsVariable variable fragments → IsRequired (required_variable variable) fragments
+  one_value : (token sign : Token) (single : Single) (after : List SeenFragment)
+      → role_of token ≡ roles.Named → is_identity sign ≡ true
+      → IsSingle single after → IsRequired (required_single token single)
+      (one token ∷ one sign ∷ after)
 
 pub data ResultTree : Type 0 where
   several_results : (variables : List VariableTree) (rest : Option VariableTree) → ResultTree
@@ -214,16 +260,25 @@ pub data ResultTree : Type 0 where
 
 -- the results in brackets, of which the rest may have a type
 pub data Give : List VariableTree → Option VariableTree → List SeenFragment → Type 0 where
-  last_given : (variable : VariableTree) (fragments : List SeenFragment) → IsVariable variable fragments → Give (variable ∷ []) None fragments
-  rest_given : (mark : Token) (rest : VariableTree) (after : List SeenFragment) → is_mark (codes "#rest") mark ≡ true → IsVariable rest after → Give [] (Some rest) (one mark ∷ after)
-  more_given : (variable : VariableTree) (others : List VariableTree) (rest : Option VariableTree) (separator : Token) (before after all : List SeenFragment) → all ≡ before ++ one separator ∷ after → role_of separator ≡ roles.Comma
+  last_given : (variable : VariableTree) (fragments : List SeenFragment)
+      → IsVariable variable fragments → Give (variable ∷ []) None fragments
+  rest_given : (mark : Token) (rest : VariableTree) (after : List SeenFragment)
+      → is_mark (codes "#rest") mark ≡ true → IsVariable rest after
+      → Give [] (Some rest) (one mark ∷ after)
+  more_given : (variable : VariableTree) (others : List VariableTree) (rest : Option VariableTree)
+      (separator : Token) (before after all : List SeenFragment)
+      → all ≡ before ++ one separator ∷ after → role_of separator ≡ roles.Comma
       → IsVariable variable before → Give others rest after → Give (variable ∷ others) rest all
 
 pub data AreResults : ResultTree → List SeenFragment → Type 0 where
-  by_result : (variable : VariableTree) (fragments : List SeenFragment) → IsVariable variable fragments → AreResults (one_result variable) fragments
-  by_no_results : (opener closer : Token) → bracket_of opener closer ≡ brackets.Round → AreResults (several_results [] None) (group opener no_fragment closer ∷ [])
-  by_results : (variables : List VariableTree) (rest : Option VariableTree) (opener : Token) (inner : SeenFragments) (closer : Token) → bracket_of opener closer ≡ brackets.Round
-      → Give variables rest (row inner) → AreResults (several_results variables rest) (group opener inner closer ∷ [])
+  by_result : (variable : VariableTree) (fragments : List SeenFragment)
+      → IsVariable variable fragments → AreResults (one_result variable) fragments
+  by_no_results : (opener closer : Token) → bracket_of opener closer ≡ brackets.Round
+      → AreResults (several_results [] None) (group opener no_fragment closer ∷ [])
+  by_results : (variables : List VariableTree) (rest : Option VariableTree) (opener : Token)
+      (inner : SeenFragments) (closer : Token) → bracket_of opener closer ≡ brackets.Round
+      → Give variables rest (row inner)
+      → AreResults (several_results variables rest) (group opener inner closer ∷ [])
 
 abbrev pub is_colons_role : Role → Bool
 is_colons_role roles.Colons = true
@@ -241,7 +296,8 @@ abbrev pub variable_apart : Option TypeTree → List SeenFragment → Bool
 variable_apart None after = not (begins_with is_colons_role after)
 variable_apart (Some type) after = not (takes_brackets type && begins_round after)
 
--- Nothing of what follows belongs to the results. Brackets behind a name of the three forms of type belong to the type.
+-- Nothing of what follows belongs to the results. Brackets behind a name of the three forms of type
+-- belong to the type.
 abbrev pub apart : Option ResultTree → List SeenFragment → Bool
 apart None after = not (begins_with is_arrow_role after)
 apart (Some (several_results variables rest)) after = true
@@ -250,7 +306,9 @@ apart (Some (one_result variable)) after = variable_apart variable.declared afte
 -- the results behind the parameters
 pub data ResultsPart : Option ResultTree → List SeenFragment → Type 0 where
   no_results : ResultsPart None []
-  some_results : (sign : Token) (results : ResultTree) (after : List SeenFragment) → role_of sign ≡ roles.Arrow → AreResults results after → ResultsPart (Some results) (one sign ∷ after)
+  some_results : (sign : Token) (results : ResultTree) (after : List SeenFragment)
+      → role_of sign ≡ roles.Arrow → AreResults results after
+      → ResultsPart (Some results) (one sign ∷ after)
 
 -- a semicolon, or nothing
 pub data EndPart : List SeenFragment → Type 0 where
@@ -259,7 +317,10 @@ pub data EndPart : List SeenFragment → Type 0 where
 
 abbrev pub spelled_part_word : Token → PartWord
 spelled_part_word token =
-    if is_spelled (codes "#next") token then part_words.Next else if is_spelled (codes "#rest") token then part_words.Rest else if is_spelled (codes "#key") token then part_words.Key else if is_spelled (codes "#all-keys") token then part_words.AllKeys else part_words.Absent
+    if is_spelled (codes "#next") token then part_words.Next
+    else if is_spelled (codes "#rest") token then part_words.Rest
+    else if is_spelled (codes "#key") token then part_words.Key
+    else if is_spelled (codes "#all-keys") token then part_words.AllKeys else part_words.Absent
 
 abbrev pub part_word_by : TokenKind → Token → PartWord
 part_word_by kinds.Mark token = spelled_part_word token

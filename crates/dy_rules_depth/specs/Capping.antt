@@ -5,7 +5,8 @@ use Rattle.dy_tree.specs.declared.token.TokenKind.TheVariants as kinds
 use Rattle.dy_tree.specs.declared.token.Token.{Token}
 use Rattle.dy_tree.specs.declared.types.LiteralForm.{LiteralForm}
 use Rattle.dy_tree.specs.declared.types.LiteralForm.TheVariants as literals
-use Rattle.dy_rules.specs.ConstantTrees.{Constant, literal_item, vector_item, no_constant, constant_and}
+use Rattle.dy_rules.specs.ConstantTrees.{Constant, literal_item, vector_item, no_constant}
+use Rattle.dy_rules.specs.ConstantTrees.{constant_and}
 use Rattle.dy_rules.specs.Types.{TypeTree, named_type, union_type, no_type, type_and}
 use Rattle.dy_rules.specs.Trees.{Tree, unary, name}
 use Rattle.dy_rules.specs.Depth.{depth, type_depth, constant_depth, depth_limit}
@@ -34,7 +35,8 @@ nested_type (suc levels) = union_type absent_token (type_and (nested_type levels
 
 unfoldable pub nested_constant : ℕ → Constant
 nested_constant zero = literal_item (literals.Symbol absent_token)
-nested_constant (suc levels) = vector_item absent_token (constant_and (nested_constant levels) no_constant)
+nested_constant (suc levels) =
+    vector_item absent_token (constant_and (nested_constant levels) no_constant)
 
 -- trees that are one deeper than the limit
 unfoldable pub deep_tree : Tree
@@ -54,7 +56,8 @@ unfoldable pub capped_type : TypeTree → TypeTree
 capped_type type = if nat_lt depth_limit (type_depth type) then deep_type else type
 
 unfoldable pub capped_constant : Constant → Constant
-capped_constant constant = if nat_lt depth_limit (constant_depth constant) then deep_constant else constant
+capped_constant constant =
+    if nat_lt depth_limit (constant_depth constant) then deep_constant else constant
 
 abbrev pub capping : Change
 capping = record { on_tree = capped; on_type = capped_type; on_constant = capped_constant }
@@ -69,7 +72,8 @@ filled_type (named_type token) = if is_absent token then deep_type else named_ty
 filled_type type = type
 
 abbrev pub filled_literal : LiteralForm → Constant
-filled_literal (literals.Symbol token) = if is_absent token then deep_constant else literal_item (literals.Symbol token)
+filled_literal (literals.Symbol token) =
+    if is_absent token then deep_constant else literal_item (literals.Symbol token)
 filled_literal form = literal_item form
 
 abbrev pub filled_constant : Constant → Constant

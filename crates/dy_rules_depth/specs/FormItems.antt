@@ -7,7 +7,9 @@ use Rattle.dy_rules.specs.Reading.{expression_items}
 use Rattle.dy_rules.specs.Fragments.{items_in, items_of}
 use Rattle.dy_rules.specs.Definitions.{is_definition_word}
 use Rattle.dy_rules.specs.Forms.{FormTree}
-use Rattle.dy_rules.specs.FormReading.{words_front, ended_definition, flat_definition, FormFront, expression_front, group_front, flat_front, expression_of_form}
+use Rattle.dy_rules.specs.FormReading.{words_front, ended_definition, flat_definition, FormFront}
+use Rattle.dy_rules.specs.FormReading.{expression_front, group_front, flat_front}
+use Rattle.dy_rules.specs.FormReading.{expression_of_form}
 
 -- the items that make up the form
 abbrev pub items_at : FormFront → List SeenFragment → List Item
@@ -16,6 +18,9 @@ items_at (group_front define inner) fragments = items_in inner
 items_at (flat_front define rest) fragments = items_of rest
 
 abbrev pub form_items : FormFront → List Item → Option FormTree
-form_items expression_front items = option_map expression_of_form (expression_items splittings.Nothing items)
-form_items (group_front define inner) items = option_and_then (ended_definition define) (words_front is_definition_word items)
-form_items (flat_front define rest) items = option_and_then (flat_definition define) (words_front is_definition_word items)
+form_items expression_front items =
+    option_map expression_of_form (expression_items splittings.Nothing items)
+form_items (group_front define inner) items =
+    option_and_then (ended_definition define) (words_front is_definition_word items)
+form_items (flat_front define rest) items =
+    option_and_then (flat_definition define) (words_front is_definition_word items)

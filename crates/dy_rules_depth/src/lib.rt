@@ -1,4 +1,5 @@
-//! Trees that are too deep: what stands in their place, and that readers give the same whatever stands there.
+//! Trees that are too deep: what stands in their place, and that readers give the same whatever
+//! stands there.
 #![tactic(auto)]
 
 mod laws;

@@ -5,14 +5,41 @@ use Rattle.dy_tree.specs.declared.token.Token.{Token}
 use Rattle.dy_term.specs.declared.literal.Literal.{Literal}
 use Rattle.dy_term.specs.declared.term.Limit.{Limit}
 use Rattle.dy_term.specs.declared.draft.Local.{Local}
-use Rattle.dy_term.specs.declared.draft.DraftTerm.{DraftTerm, Lit, Name, Hidden, Set', NoPlace', Call', Values', Cond', And', Or', Select', Body', Loop', For', Method', Block', Row_of-DraftTerm, end_of-DraftTerm, more_of-DraftTerm, Row_of-DraftTerm-Cond-0-2, end_of-DraftTerm-Cond-0-2, more_of-DraftTerm-Cond-0-2, Held-DraftTerm-Select-1, DraftTerm-Select-1-None', DraftTerm-Select-1-Some', Row_of-DraftArm, end_of-DraftArm, more_of-DraftArm, Row_of-DraftItem, end_of-DraftItem, more_of-DraftItem, Row_of-DraftForClause, end_of-DraftForClause, more_of-DraftForClause, Held-DraftFor-test, DraftFor-test-None', DraftFor-test-Some', Held-DraftForClause-From-4, DraftForClause-From-4-None', DraftForClause-From-4-Some'}
-use Rattle.dy_term.specs.declared.draft.DraftItem.{DraftItem, Run, Let, LetMethods', Handler, Row_of-DraftItem-LetMethods-0-2, end_of-DraftItem-LetMethods-0-2, more_of-DraftItem-LetMethods-0-2}
-use Rattle.dy_term.specs.declared.draft.DraftForClause.{DraftForClause, Then, In, From', Held-DraftForClause-From-3, DraftForClause-From-3-None', DraftForClause-From-3-Some'}
-use Rattle.dy_term.specs.declared.draft.DraftBlock.{DraftBlock, DraftBlock', Row_of-DraftBlockClause, end_of-DraftBlockClause, more_of-DraftBlockClause}
+use Rattle.dy_term.specs.declared.draft.DraftTerm.{DraftTerm, Lit, Name, Hidden, Set', NoPlace'}
+use Rattle.dy_term.specs.declared.draft.DraftTerm.{Call', Values', Cond', And', Or', Select', Body'}
+use Rattle.dy_term.specs.declared.draft.DraftTerm.{Loop', For', Method', Block', Row_of-DraftTerm}
+use Rattle.dy_term.specs.declared.draft.DraftTerm.{end_of-DraftTerm, more_of-DraftTerm}
+use Rattle.dy_term.specs.declared.draft.DraftTerm.{Row_of-DraftTerm-Cond-0-2}
+use Rattle.dy_term.specs.declared.draft.DraftTerm.{end_of-DraftTerm-Cond-0-2}
+use Rattle.dy_term.specs.declared.draft.DraftTerm.{more_of-DraftTerm-Cond-0-2}
+use Rattle.dy_term.specs.declared.draft.DraftTerm.{Held-DraftTerm-Select-1}
+use Rattle.dy_term.specs.declared.draft.DraftTerm.{DraftTerm-Select-1-None'}
+use Rattle.dy_term.specs.declared.draft.DraftTerm.{DraftTerm-Select-1-Some', Row_of-DraftArm}
+use Rattle.dy_term.specs.declared.draft.DraftTerm.{end_of-DraftArm, more_of-DraftArm}
+use Rattle.dy_term.specs.declared.draft.DraftTerm.{Row_of-DraftItem, end_of-DraftItem}
+use Rattle.dy_term.specs.declared.draft.DraftTerm.{more_of-DraftItem, Row_of-DraftForClause}
+use Rattle.dy_term.specs.declared.draft.DraftTerm.{end_of-DraftForClause, more_of-DraftForClause}
+use Rattle.dy_term.specs.declared.draft.DraftTerm.{Held-DraftFor-test, DraftFor-test-None'}
+use Rattle.dy_term.specs.declared.draft.DraftTerm.{DraftFor-test-Some', Held-DraftForClause-From-4}
+use Rattle.dy_term.specs.declared.draft.DraftTerm.{DraftForClause-From-4-None'}
+use Rattle.dy_term.specs.declared.draft.DraftTerm.{DraftForClause-From-4-Some'}
+use Rattle.dy_term.specs.declared.draft.DraftItem.{DraftItem, Run, Let, LetMethods', Handler}
+use Rattle.dy_term.specs.declared.draft.DraftItem.{Row_of-DraftItem-LetMethods-0-2}
+use Rattle.dy_term.specs.declared.draft.DraftItem.{end_of-DraftItem-LetMethods-0-2}
+use Rattle.dy_term.specs.declared.draft.DraftItem.{more_of-DraftItem-LetMethods-0-2}
+use Rattle.dy_term.specs.declared.draft.DraftForClause.{DraftForClause, Then, In, From'}
+use Rattle.dy_term.specs.declared.draft.DraftForClause.{Held-DraftForClause-From-3}
+use Rattle.dy_term.specs.declared.draft.DraftForClause.{DraftForClause-From-3-None'}
+use Rattle.dy_term.specs.declared.draft.DraftForClause.{DraftForClause-From-3-Some'}
+use Rattle.dy_term.specs.declared.draft.DraftBlock.{DraftBlock, DraftBlock'}
+use Rattle.dy_term.specs.declared.draft.DraftBlock.{Row_of-DraftBlockClause}
+use Rattle.dy_term.specs.declared.draft.DraftBlock.{end_of-DraftBlockClause}
+use Rattle.dy_term.specs.declared.draft.DraftBlock.{more_of-DraftBlockClause}
 use Rattle.dy_term.specs.declared.draft.DraftArm.{DraftArm}
 use Rattle.dy_term.specs.declared.draft.DraftBlockClause.{DraftBlockClause}
 use Rattle.dy_term.specs.declared.draft.DraftLambda.{DraftLambda}
-use Rattle.dy_term.specs.Types.{CoreType, CoreParams, CoreResults, seen_type, seen_typed, seen_params, seen_results}
+use Rattle.dy_term.specs.Types.{CoreType, CoreParams, CoreResults, seen_type, seen_typed}
+use Rattle.dy_term.specs.Types.{seen_params, seen_results}
 
 mutual
   pub data Core : Type 0 where
@@ -31,7 +58,8 @@ mutual
     loop : (test : Core) (body : Core) → Core
     for : (clauses : CoreClauses) (test : CoreTest) (body : Core) (finally : MaybeCore) → Core
     method : (lambda : CoreLambda) → Core
-    block : (exit : Option Token) (body : Core) (afterwards : MaybeCore) (cleanup : MaybeCore) (clauses : CoreCatches) → Core
+    block : (exit : Option Token) (body : Core) (afterwards : MaybeCore) (cleanup : MaybeCore)
+        (clauses : CoreCatches) → Core
 
   pub data Cores : Type 0 where
     no_core : Cores
@@ -65,7 +93,8 @@ mutual
     method_and : (token : Token) (first : CoreLambda) (rest : CoreMethods) → CoreMethods
 
   pub data CoreLambda : Type 0 where
-    lambda : (params : CoreParams) (defaults : Cores) (body : Core) (results : CoreResults) → CoreLambda
+    lambda : (params : CoreParams) (defaults : Cores) (body : Core) (results : CoreResults)
+        → CoreLambda
 
   pub data CoreClauses : Type 0 where
     no_clause : CoreClauses
@@ -74,7 +103,8 @@ mutual
   pub data CoreClause : Type 0 where
     then_clause : (variable : Token) (declared : CoreType) (first : Core) (next : Core) → CoreClause
     in_clause : (variable : Token) (declared : CoreType) (collection : Core) → CoreClause
-    from_clause : (variable : Token) (declared : CoreType) (start : Core) (limit : CoreLimit) (step : MaybeCore) → CoreClause
+    from_clause : (variable : Token) (declared : CoreType) (start : Core) (limit : CoreLimit)
+        (step : MaybeCore) → CoreClause
 
   pub data CoreLimit : Type 0 where
     no_limit : CoreLimit
@@ -87,7 +117,8 @@ mutual
 
   pub data CoreCatches : Type 0 where
     no_catch : CoreCatches
-    catch_and : (variable : Option Token) (condition : CoreType) (body : Core) (rest : CoreCatches) → CoreCatches
+    catch_and : (variable : Option Token) (condition : CoreType) (body : Core) (rest : CoreCatches)
+        → CoreCatches
 
 -- terms one after the other
 abbrev pub cores_of : List Core → Cores
@@ -146,15 +177,20 @@ abbrev mutual
   seen_term (Cond' shape branches p last) = cond (seen_branches branches (seen_term last))
   seen_term (And' p left q right) = and (seen_term left) (seen_term right)
   seen_term (Or' p left q right) = or (seen_term left) (seen_term right)
-  seen_term (Select' p value test shape arms last) = select (seen_term value) (seen_maybe test) (seen_arms arms) (seen_maybe last)
+  seen_term (Select' p value test shape arms last) =
+      select (seen_term value) (seen_maybe test) (seen_arms arms) (seen_maybe last)
   seen_term (Body' shape items) = body (seen_items items)
   seen_term (Loop' p test q inner) = loop (seen_term test) (seen_term inner)
-  seen_term (For' p shape clauses test inner finally) = for (seen_clauses clauses) (seen_test test) (seen_term inner) (seen_step finally)
-  seen_term (Method' p params shape defaults inner results) = method (lambda (seen_params params) (seen_terms defaults) (seen_term inner) (seen_results results))
+  seen_term (For' p shape clauses test inner finally) =
+      for (seen_clauses clauses) (seen_test test) (seen_term inner) (seen_step finally)
+  seen_term (Method' p params shape defaults inner results) =
+      method (lambda (seen_params params) (seen_terms defaults) (seen_term inner)
+      (seen_results results))
   seen_term (Block' p row) = seen_block row
 
   pub seen_block : DraftBlock → Core
-  seen_block (DraftBlock' exit inner afterwards cleanup shape clauses) = block exit (seen_term inner) (seen_step afterwards) (seen_step cleanup) (seen_catches clauses)
+  seen_block (DraftBlock' exit inner afterwards cleanup shape clauses) =
+      block exit (seen_term inner) (seen_step afterwards) (seen_step cleanup) (seen_catches clauses)
 
   pub seen_terms : {m : _} → Row_of-DraftTerm m → Cores
   seen_terms end_of-DraftTerm = no_core
@@ -170,11 +206,13 @@ abbrev mutual
 
   pub seen_branches : {m : _} → Row_of-DraftTerm-Cond-0-2 m → Core → Choice
   seen_branches end_of-DraftTerm-Cond-0-2 last = otherwise last
-  seen_branches (more_of-DraftTerm-Cond-0-2 test term branches) last = branch (seen_term test) (seen_term term) (seen_branches branches last)
+  seen_branches (more_of-DraftTerm-Cond-0-2 test term branches) last =
+      branch (seen_term test) (seen_term term) (seen_branches branches last)
 
   pub seen_arms : {m : _} → Row_of-DraftArm m → CoreArms
   seen_arms end_of-DraftArm = no_arm
-  seen_arms (more_of-DraftArm shape keys inner rest) = arm_and (seen_terms keys) (seen_term inner) (seen_arms rest)
+  seen_arms (more_of-DraftArm shape keys inner rest) =
+      arm_and (seen_terms keys) (seen_term inner) (seen_arms rest)
 
   pub seen_items : {m : _} → Row_of-DraftItem m → CoreItems
   seen_items end_of-DraftItem = no_item
@@ -189,16 +227,22 @@ abbrev mutual
   pub seen_methods : {m : _} → Row_of-DraftItem-LetMethods-0-2 m → CoreMethods
   seen_methods end_of-DraftItem-LetMethods-0-2 = no_method
   seen_methods (more_of-DraftItem-LetMethods-0-2 token params shape defaults inner results rest) =
-      method_and token (lambda (seen_params params) (seen_terms defaults) (seen_term inner) (seen_results results)) (seen_methods rest)
+      method_and token (lambda (seen_params params) (seen_terms defaults) (seen_term inner)
+      (seen_results results)) (seen_methods rest)
 
   pub seen_clauses : {m : _} → Row_of-DraftForClause m → CoreClauses
   seen_clauses end_of-DraftForClause = no_clause
-  seen_clauses (more_of-DraftForClause first rest) = clause_and (seen_clause first) (seen_clauses rest)
+  seen_clauses (more_of-DraftForClause first rest) =
+      clause_and (seen_clause first) (seen_clauses rest)
 
   pub seen_clause : DraftForClause → CoreClause
-  seen_clause (Then variable declared first next) = then_clause variable (seen_type declared) (seen_term first) (seen_term next)
-  seen_clause (In variable declared collection) = in_clause variable (seen_type declared) (seen_term collection)
-  seen_clause (From' variable declared start limit step) = from_clause variable (seen_type declared) (seen_term start) (seen_limit limit) (seen_step step)
+  seen_clause (Then variable declared first next) =
+      then_clause variable (seen_type declared) (seen_term first) (seen_term next)
+  seen_clause (In variable declared collection) =
+      in_clause variable (seen_type declared) (seen_term collection)
+  seen_clause (From' variable declared start limit step) =
+      from_clause variable (seen_type declared) (seen_term start) (seen_limit limit)
+      (seen_step step)
 
   pub seen_limit : Held-DraftForClause-From-3 → CoreLimit
   seen_limit DraftForClause-From-3-None' = no_limit
@@ -210,7 +254,8 @@ abbrev mutual
 
   pub seen_catches : {m : _} → Row_of-DraftBlockClause m → CoreCatches
   seen_catches end_of-DraftBlockClause = no_catch
-  seen_catches (more_of-DraftBlockClause variable condition inner rest) = catch_and variable (seen_type condition) (seen_term inner) (seen_catches rest)
+  seen_catches (more_of-DraftBlockClause variable condition inner rest) =
+      catch_and variable (seen_type condition) (seen_term inner) (seen_catches rest)
 
 -- a test and its term
 abbrev pub seen_pair : DraftTerm × DraftTerm → Core × Core
@@ -226,11 +271,17 @@ seen_arm arm = record { values = map seen_term arm.values.items; body = seen_ter
 
 -- an `exception` clause
 abbrev pub seen_catch : DraftBlockClause → CoreCatch
-seen_catch clause = record { variable = clause.variable; condition = seen_type clause.condition; body = seen_term clause.body }
+seen_catch clause = record {
+  variable = clause.variable;
+  condition = seen_type clause.condition;
+  body = seen_term clause.body;
+}
 
 -- a body with parameters
 abbrev pub seen_lambda : DraftLambda → CoreLambda
-seen_lambda found = lambda (seen_params found.params) (cores_of (map seen_term found.defaults.items)) (seen_term found.body) (seen_results found.results)
+seen_lambda found = lambda (seen_params found.params)
+    (cores_of (map seen_term found.defaults.items)) (seen_term found.body)
+    (seen_results found.results)
 
 -- a local method and its name
 abbrev pub seen_method : Token × DraftLambda → Token × CoreLambda

@@ -16,7 +16,8 @@ use Rattle.dy_term.specs.declared.draft.DraftTop.{DraftTop}
 use Rattle.dy_term.specs.declared.draft.DraftTop.TheVariants as tops
 use Rattle.dy_term.specs.declared.draft.Draft.{Draft}
 use Rattle.dy_term.specs.declared.draft.Draft.TheVariants as drafts
-use Rattle.dy_term.specs.Types.{CoreType, CoreParams, CoreResults, seen_type, seen_typed, seen_params, seen_results}
+use Rattle.dy_term.specs.Types.{CoreType, CoreParams, CoreResults, seen_type, seen_typed}
+use Rattle.dy_term.specs.Types.{seen_params, seen_results}
 use Rattle.dy_term.specs.Drafts.{Core, CoreLambda, seen_term, seen_lambda}
 
 -- what a slot is filled with
@@ -38,7 +39,15 @@ pub record CoreSlot : Type 0 where
   pub init : Option CoreInit
 
 abbrev pub seen_slot : DraftSlot → CoreSlot
-seen_slot slot = record { getter = slot.getter; setter = slot.setter; kind = slot.kind; slot_type = seen_type slot.slot_type; keyword = slot.keyword; required = slot.required; init = option_map seen_init slot.init }
+seen_slot slot = record {
+  getter = slot.getter;
+  setter = slot.setter;
+  kind = slot.kind;
+  slot_type = seen_type slot.slot_type;
+  keyword = slot.keyword;
+  required = slot.required;
+  init = option_map seen_init slot.init;
+}
 
 pub record CoreClass : Type 0 where
   pub adjectives : List Token
@@ -47,7 +56,12 @@ pub record CoreClass : Type 0 where
   pub slots : List CoreSlot
 
 abbrev pub seen_class : DraftClass → CoreClass
-seen_class class = record { adjectives = class.adjectives.items; name = class.name; supers = class.supers.items; slots = map seen_slot class.slots.items }
+seen_class class = record {
+  adjectives = class.adjectives.items;
+  name = class.name;
+  supers = class.supers.items;
+  slots = map seen_slot class.slots.items;
+}
 
 pub record CoreGeneric : Type 0 where
   pub adjectives : List Token
@@ -56,7 +70,12 @@ pub record CoreGeneric : Type 0 where
   pub results : CoreResults
 
 abbrev pub seen_generic : DraftGeneric → CoreGeneric
-seen_generic generic = record { adjectives = generic.adjectives.items; name = generic.name; params = seen_params generic.params; results = seen_results generic.results }
+seen_generic generic = record {
+  adjectives = generic.adjectives.items;
+  name = generic.name;
+  params = seen_params generic.params;
+  results = seen_results generic.results;
+}
 
 -- a method of a generic function, and the name of the next method where none is written
 pub record CoreMethod : Type 0 where
@@ -66,7 +85,12 @@ pub record CoreMethod : Type 0 where
   pub code : CoreLambda
 
 abbrev pub seen_definition : DraftMethod → CoreMethod
-seen_definition method = record { adjectives = method.adjectives.items; generic = method.generic; next = method.next; code = seen_lambda method.code }
+seen_definition method = record {
+  adjectives = method.adjectives.items;
+  generic = method.generic;
+  next = method.next;
+  code = seen_lambda method.code;
+}
 
 pub record CoreDomain : Type 0 where
   pub generic : Token
@@ -81,16 +105,20 @@ pub data CoreVariable : Type 0 where
   type_constant : (name : Token) (declared : CoreType) (meant : CoreType) → CoreVariable
 
 abbrev pub seen_variable : DraftVariable → CoreVariable
-seen_variable (variables.Function adjectives name code) = function adjectives.items name (seen_lambda code)
-seen_variable (variables.Type name declared meant) = type_constant name (seen_type declared) (seen_type meant)
+seen_variable (variables.Function adjectives name code) =
+    function adjectives.items name (seen_lambda code)
+seen_variable (variables.Type name declared meant) =
+    type_constant name (seen_type declared) (seen_type meant)
 
--- what runs when the library is loaded: variables or constants that take the values of a term, or a term
+-- what runs when the library is loaded: variables or constants that take the values of a term, or a
+-- term
 pub data CoreTop : Type 0 where
   init : (is_constant : Bool) (locals : List (Token × CoreType)) (term : Core) → CoreTop
   run : (term : Core) → CoreTop
 
 abbrev pub seen_top : DraftTop → CoreTop
-seen_top (tops.Init is_constant locals term) = init is_constant (map seen_typed locals.items) (seen_term term)
+seen_top (tops.Init is_constant locals term) =
+    init is_constant (map seen_typed locals.items) (seen_term term)
 seen_top (tops.Run term) = run (seen_term term)
 
 -- what a form of the source is in the core

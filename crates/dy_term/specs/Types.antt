@@ -3,7 +3,9 @@ use Rattle.std.specs.Prelude.{ℕ, ℤ, Bool, List, [], ◌∷◌, map, Option, 
 use Rattle.std.specs.Option.{option_map}
 use Rattle.dy_tree.specs.declared.token.Token.{Token}
 use Rattle.dy_term.specs.declared.literal.Literal.{Literal}
-use Rattle.dy_term.specs.declared.draft.DraftType.{DraftType, Object, Integer, Name, Single, SingleName, Union', Range, Row_of-DraftType, end_of-DraftType, more_of-DraftType}
+use Rattle.dy_term.specs.declared.draft.DraftType.{DraftType, Object, Integer, Name, Single}
+use Rattle.dy_term.specs.declared.draft.DraftType.{SingleName, Union', Range, Row_of-DraftType}
+use Rattle.dy_term.specs.declared.draft.DraftType.{end_of-DraftType, more_of-DraftType}
 use Rattle.dy_term.specs.declared.draft.DraftKey.{DraftKey}
 use Rattle.dy_term.specs.declared.draft.DraftParams.{DraftParams}
 use Rattle.dy_term.specs.declared.draft.DraftResults.{DraftResults}
@@ -56,7 +58,11 @@ pub record CoreKey : Type 0 where
   pub declared : CoreType
 
 abbrev pub seen_key : DraftKey → CoreKey
-seen_key key = record { keyword = key.keyword; variable = key.variable; declared = seen_type key.declared }
+seen_key key = record {
+  keyword = key.keyword;
+  variable = key.variable;
+  declared = seen_type key.declared;
+}
 
 pub record CoreParams : Type 0 where
   pub required : List (Token × CoreType)
@@ -67,11 +73,18 @@ pub record CoreParams : Type 0 where
 
 abbrev pub seen_params : DraftParams → CoreParams
 seen_params params =
-    record { required = map seen_typed params.required.items; next = params.next; rest = params.rest; keys = option_map (λ keys. map seen_key keys.items) params.keys; all_keys = params.all_keys }
+    record {
+      required = map seen_typed params.required.items;
+      next = params.next;
+      rest = params.rest;
+      keys = option_map (λ keys. map seen_key keys.items) params.keys;
+      all_keys = params.all_keys;
+    }
 
 pub record CoreResults : Type 0 where
   pub required : List CoreType
   pub rest : Option CoreType
 
 abbrev pub seen_results : DraftResults → CoreResults
-seen_results results = record { required = map seen_type results.required.items; rest = option_map seen_type results.rest }
+seen_results results = record
+    { required = map seen_type results.required.items; rest = option_map seen_type results.rest }

@@ -1,4 +1,5 @@
-//! Drafts: terms and rows whose names are still tokens, since nobody has looked up yet what they name.
+//! Drafts: terms and rows whose names are still tokens, since nobody has looked up yet what they
+//! name.
 
 use crate::literal::Literal;
 use crate::rows::SlotKind;
@@ -166,8 +167,8 @@ pub struct DraftBlock {
     pub clauses: Vec<DraftBlockClause>,
 }
 
-/// An `exception` clause: the local of the condition, the type of conditions, and what runs where one
-/// is caught.
+/// An `exception` clause: the local of the condition, the type of conditions, and what runs where
+/// one is caught.
 #[cycle(drafts)]
 #[derive(Debug, Drop)]
 pub struct DraftBlockClause {

@@ -2,7 +2,11 @@
 
 ghost use Rattle.std.specs.Prelude.{◌≡◌, map, option_map, IfOk};
 ghost use Rattle.dy_term.specs.Types.{types_of, union, seen_type};
-ghost use Rattle.dy_term.specs.Drafts.{cores_of, arms_of, methods_of, clauses_of, catches_of, values, select, for, method, block, let_methods, from_clause, seen_term, seen_item, seen_clause, seen_option, seen_arm, seen_catch, seen_lambda, seen_method, seen_bound, seen_ending};
+ghost use Rattle.dy_term.specs.Drafts.{cores_of, arms_of, methods_of, clauses_of, catches_of};
+ghost use Rattle.dy_term.specs.Drafts.{values, select, for, method, block, let_methods};
+ghost use Rattle.dy_term.specs.Drafts.{from_clause, seen_term, seen_item, seen_clause, seen_option};
+ghost use Rattle.dy_term.specs.Drafts.{seen_arm, seen_catch, seen_lambda, seen_method, seen_bound};
+ghost use Rattle.dy_term.specs.Drafts.{seen_ending};
 
 use crate::draft::{
     DraftArm, DraftBlock, DraftBlockClause, DraftFor, DraftForClause, DraftItem, DraftLambda,
@@ -65,7 +69,9 @@ pub fn select_draft(
     arms: Vec<DraftArm>,
     otherwise: Option<DraftTerm>,
 ) -> Result<DraftTerm, AllocError>
-    ensures { IfOk result (λ term. seen_term term ≡ select (seen_term value) (seen_option test) (arms_of (map seen_arm arms.items)) (seen_option otherwise)) }
+    ensures { IfOk result (λ term. seen_term term
+        ≡ select (seen_term value) (seen_option test) (arms_of (map seen_arm arms.items))
+        (seen_option otherwise)) }
 {
     let value = Box::new(alloc, value)?;
     let test = boxed(alloc, test)?;
@@ -82,7 +88,9 @@ pub fn block_draft(
     cleanup: Option<DraftTerm>,
     clauses: Vec<DraftBlockClause>,
 ) -> Result<DraftTerm, AllocError>
-    ensures { IfOk result (λ term. seen_term term ≡ block exit (seen_term body) (seen_option afterwards) (seen_option cleanup) (catches_of (map seen_catch clauses.items))) }
+    ensures { IfOk result (λ term. seen_term term
+        ≡ block exit (seen_term body) (seen_option afterwards) (seen_option cleanup)
+        (catches_of (map seen_catch clauses.items))) }
 {
     let row = DraftBlock {
         exit,
@@ -104,7 +112,9 @@ pub fn for_draft(
     body: DraftTerm,
     finally: Option<DraftTerm>,
 ) -> Result<DraftTerm, AllocError>
-    ensures { IfOk result (λ term. seen_term term ≡ for (clauses_of (map seen_clause clauses.items)) (seen_ending test) (seen_term body) (seen_option finally)) }
+    ensures { IfOk result (λ term. seen_term term
+        ≡ for (clauses_of (map seen_clause clauses.items)) (seen_ending test) (seen_term body)
+        (seen_option finally)) }
 {
     let row = DraftFor {
         clauses,
@@ -125,7 +135,9 @@ pub fn from_draft(
     limit: Option<(Limit, DraftTerm)>,
     step: Option<DraftTerm>,
 ) -> DraftForClause
-    ensures { seen_clause result ≡ from_clause variable (seen_type declared) (seen_term start) (seen_bound limit) (seen_option step) }
+    ensures { seen_clause result
+        ≡ from_clause variable (seen_type declared) (seen_term start) (seen_bound limit)
+        (seen_option step) }
 {
     DraftForClause::From(variable, declared, start, limit, step)
 }

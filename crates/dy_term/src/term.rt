@@ -32,8 +32,8 @@ pub enum Term {
     And(Boxed<Term>, Boxed<Term>),
     /// The first term where it is true, or else the second.
     Or(Boxed<Term>, Boxed<Term>),
-    /// A value, the test if it is not `==`, the arms, each with the values that lead to it, and what
-    /// is evaluated where no value does.
+    /// A value, the test if it is not `==`, the arms, each with the values that lead to it, and
+    /// what is evaluated where no value does.
     Select(Boxed<Term>, Option<Boxed<Term>>, Items<(Items<Term>, Term)>, Option<Boxed<Term>>),
     /// Items, one after the other. The value is that of the last one where it is a term, else `#f`.
     Body(Items<Item>),
@@ -62,8 +62,8 @@ pub enum Item {
     Handler(DyType, Term),
 }
 
-/// A body with parameters (DRM 6, "Methods"). No two locals of a row have one number, and a lambda inside
-/// of another names the locals of the outer one by theirs.
+/// A body with parameters (DRM 6, "Methods"). No two locals of a row have one number, and a lambda
+/// inside of another names the locals of the outer one by theirs.
 #[cycle(terms)]
 #[derive(Drop)]
 pub struct Lambda {

@@ -1,7 +1,8 @@
 //! Drafts of terms, made from their parts.
 
 ghost use Rattle.std.specs.Prelude.{◌≡◌, map, IfOk};
-ghost use Rattle.dy_term.specs.Drafts.{cores_of, choice_of, items_of, call, cond, and, or, set, no_place, body, loop, seen_term, seen_pair, seen_item};
+ghost use Rattle.dy_term.specs.Drafts.{cores_of, choice_of, items_of, call, cond, and, or, set};
+ghost use Rattle.dy_term.specs.Drafts.{no_place, body, loop, seen_term, seen_pair, seen_item};
 
 use crate::draft::{DraftItem, DraftTerm};
 use dy_tree::Token;
@@ -13,7 +14,8 @@ pub fn call_draft(
     function: DraftTerm,
     arguments: Vec<DraftTerm>,
 ) -> Result<DraftTerm, AllocError>
-    ensures { IfOk result (λ term. seen_term term ≡ call (seen_term function) (cores_of (map seen_term arguments.items))) }
+    ensures { IfOk result (λ term. seen_term term
+        ≡ call (seen_term function) (cores_of (map seen_term arguments.items))) }
 {
     let function = Box::new(alloc, function)?;
     Ok(DraftTerm::Call(function, arguments))
@@ -25,7 +27,8 @@ pub fn cond_draft(
     branches: Vec<(DraftTerm, DraftTerm)>,
     last: DraftTerm,
 ) -> Result<DraftTerm, AllocError>
-    ensures { IfOk result (λ term. seen_term term ≡ cond (choice_of (map seen_pair branches.items) (seen_term last))) }
+    ensures { IfOk result (λ term. seen_term term
+        ≡ cond (choice_of (map seen_pair branches.items) (seen_term last))) }
 {
     let last = Box::new(alloc, last)?;
     Ok(DraftTerm::Cond(branches, last))
@@ -73,7 +76,8 @@ pub fn no_place_draft(
     place: DraftTerm,
     value: DraftTerm,
 ) -> Result<DraftTerm, AllocError>
-    ensures { IfOk result (λ term. seen_term term ≡ no_place token (seen_term place) (seen_term value)) }
+    ensures { IfOk result (λ term. seen_term term
+        ≡ no_place token (seen_term place) (seen_term value)) }
 {
     Ok(DraftTerm::NoPlace(token, Box::new(alloc, place)?, Box::new(alloc, value)?))
 }

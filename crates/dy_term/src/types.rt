@@ -27,8 +27,8 @@ pub struct DyType {
 pub struct Shape1 {
     /// Its direct class.
     pub class: ClassId,
-    /// The argument itself, where it is a number, a character, a symbol, a boolean, `#()` or a class.
-    /// Each is an instance of `class` then.
+    /// The argument itself, where it is a number, a character, a symbol, a boolean, `#()` or a
+    /// class. Each is an instance of `class` then.
     pub single: Option<Member>,
 }
 

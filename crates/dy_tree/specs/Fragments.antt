@@ -1,7 +1,9 @@
--- Fragments without where they lie in memory. A token holds nothing of where it lies, so it stands for itself.
+-- Fragments without where they lie in memory. A token holds nothing of where it lies, so it stands
+-- for itself.
 use Rattle.std.specs.Prelude.{List, [], ◌∷◌, map}
 use Rattle.dy_tree.specs.declared.token.Token.{Token}
-use Rattle.dy_tree.specs.declared.fragment.Fragment.{Fragment, One, Group', Row_of-Fragment, end_of-Fragment, more_of-Fragment}
+use Rattle.dy_tree.specs.declared.fragment.Fragment.{Fragment, One, Group', Row_of-Fragment}
+use Rattle.dy_tree.specs.declared.fragment.Fragment.{end_of-Fragment, more_of-Fragment}
 
 mutual
   pub data SeenFragment : Type 0 where

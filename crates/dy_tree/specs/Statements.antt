@@ -1,6 +1,7 @@
 -- Parts that all statements have.
 use Rattle.dy_tree.specs.declared.token.Token.{Token}
-use Rattle.dy_tree.specs.declared.expression.Statement.{Statement, Begin', Method', If', Guarded', Case', Select', Block', For'}
+use Rattle.dy_tree.specs.declared.expression.Statement.{Statement, Begin', Method', If', Guarded'}
+use Rattle.dy_tree.specs.declared.expression.Statement.{Case', Select', Block', For'}
 
 abbrev pub word_of : Statement → Token
 word_of (Begin' word shape body) = word
