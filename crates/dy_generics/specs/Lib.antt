@@ -1,0 +1,4 @@
+pub mod Congruence
+pub mod Duplicates
+pub mod Implicit
+pub mod Words

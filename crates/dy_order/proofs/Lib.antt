@@ -1,0 +1,9 @@
+pub mod Answered
+pub mod Decided
+pub mod Ids
+pub mod Lists
+pub mod Methods
+pub mod Order
+pub mod Sorts
+pub mod Steps
+pub mod Told

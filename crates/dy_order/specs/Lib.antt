@@ -1,0 +1,4 @@
+pub mod Methods
+pub mod Places
+pub mod Precedence
+pub mod Sorting
