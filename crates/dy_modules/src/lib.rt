@@ -1,0 +1,24 @@
+//! Which names each module of a library sees, and who owns them (DRM 4, "Modules" and "Libraries").
+#![tactic(auto)]
+
+mod build;
+mod clash;
+mod clause;
+mod laws;
+mod lookup;
+mod module_table;
+mod names;
+mod owner;
+mod promise;
+mod rounds;
+mod table;
+
+pub use clash::first_clash;
+pub use clause::{ModuleForm, UseClause, brought, picked};
+pub use laws::least_set;
+pub use module_table::ModuleTable;
+pub use names::NameSet;
+pub use owner::Owner;
+pub use promise::Promise;
+pub use rounds::{ModuleTables, bring_from, settle};
+pub use table::Cell;
