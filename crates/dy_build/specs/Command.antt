@@ -54,8 +54,7 @@ outputs out_before out_now err_before err_now =
       out_before = out_before;
       out_now = out_now;
       err_before = err_before;
-      err_now =
-          err_now;
+      err_now = err_now;
     }
 
 -- nothing was sent

@@ -39,8 +39,7 @@ no_file subject file =
       kind = NoFile;
       subject = subject;
       position = None;
-      shown =
-          if is_same file subject then [] else file ∷ [];
+      shown = if is_same file subject then [] else file ∷ [];
     }
 
 abbrev pub position_at : List ℕ → Point → Position
@@ -53,6 +52,5 @@ syntax subject file point =
       kind = Syntax;
       subject = subject;
       position = Some (position_at file point);
-      shown =
-          [];
+      shown = [];
     }

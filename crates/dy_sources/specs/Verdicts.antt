@@ -65,8 +65,7 @@ located subject first second fault =
     record {
       kind = fault.kind;
       subject = subject;
-      position =
-          position_of first second fault.place;
+      position = position_of first second fault.place;
       shown = fault.shown;
     }
 
