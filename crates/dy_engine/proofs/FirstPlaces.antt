@@ -4,7 +4,7 @@ use Rattle.std.specs.Prelude.{option_map}
 use Rattle.std.proofs.lemmas.List.{take_more, length-take-le, places}
 use Rattle.std.proofs.lemmas.Bool.Decides.{nat_tests}
 use Rattle.dy_base.specs.declared.ids.GenericId.{GenericId}
-use Rattle.dy_engine.specs.Dispatch.{is_same_generic}
+use Rattle.dy_operations.specs.Values.{is_same_generic}
 use Rattle.dy_engine.specs.Code.{place_of, or_place, generic_id}
 
 pub kept : (known : Option ℕ) (place : ℕ) → or_place known false place ≡ known

@@ -5,9 +5,7 @@ pub mod Tables
 pub mod Runs
 pub mod Ends
 pub mod Turns
-pub mod Evaluates
 pub mod Emits
 pub mod FirstPlaces
 pub mod Settles
 pub mod Pieces
-pub mod Examples

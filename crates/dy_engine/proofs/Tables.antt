@@ -3,11 +3,11 @@ use Rattle.std.proofs.Common.{◌≡◌, ℕ, zero, suc, ◌+◌, Bool, true, fa
 use Rattle.std.specs.Prelude.{slice_get, option_map, option_and_then, ◌==◌}
 use Rattle.dy_base.specs.declared.ids.GenericId.{GenericId}
 use Rattle.dy_runnable.specs.Core.{CoreGeneric, CoreMethod, CoreLibrary}
-use Rattle.dy_engine.specs.declared.builtin.Operation.{Operation}
+use Rattle.dy_operations.specs.declared.builtin.Operation.{Operation}
 use Rattle.dy_engine.specs.declared.code.Entry.{Entry}
-use Rattle.dy_engine.specs.declared.value.Value.{Value}
-use Rattle.dy_engine.specs.Values.{wrong_number, operation_of}
-use Rattle.dy_engine.specs.Dispatch.{Reached, Answers, Enters, is_same_generic, generic_at, methods_of, method_of, found, counted, dispatched, reached}
+use Rattle.dy_operations.specs.declared.value.Value.{Value}
+use Rattle.dy_operations.specs.Values.{wrong_number, operation_of, is_same_generic}
+use Rattle.dy_engine.specs.Dispatch.{Reached, Answers, Enters, generic_at, methods_of, method_of, found, counted, dispatched, reached}
 use Rattle.dy_engine.specs.Meaning.{tops_of}
 use Rattle.dy_engine.specs.Machine.{BodyCode, entry_at, searched}
 use Rattle.dy_engine.specs.Code.{method_body, top_body, bodies_of, ids_of, place_of, generic_id, entries_of, tables_of, program_code}

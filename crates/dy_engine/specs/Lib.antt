@@ -1,4 +1,3 @@
-pub mod Values
 pub mod Dispatch
 pub mod Meaning
 pub mod Machine
@@ -6,5 +5,4 @@ pub mod Code
 pub mod Jumps
 pub mod View
 pub mod Endings
-pub mod Evaluating
 pub mod Results

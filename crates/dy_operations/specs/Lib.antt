@@ -1,0 +1,3 @@
+pub mod Values
+pub mod Formatting
+pub mod Results
