@@ -1,9 +1,7 @@
-//! What tests of forms share: a text of repeated parts, and the fragments of a text.
+//! What tests of forms share: the fragments of a text.
 #![tactic(auto)]
 
-mod parts;
 mod reading;
 mod words;
 
-pub use parts::repeated;
 pub use reading::fragments_of;
