@@ -1,0 +1,8 @@
+use Rattle.std.proofs.Common.{◌≡◌, drop}
+use Rattle.dy_base.specs.Tables.{names}
+use Rattle.dy_module_numbers.specs.Options.{with_names}
+use Rattle.dy_library_form.specs.Library.{names_of}
+use Rattle.dy_library_form.proofs.library.names_of.Given as goal
+
+abbrev pub invariant-loop-place : goal.invariant-loop-place
+invariant-loop-place l = with_names l.set (names (drop l.place l.modules)) ≡ names_of l.fn.modules

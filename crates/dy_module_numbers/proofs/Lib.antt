@@ -1,0 +1,5 @@
+pub mod Givens
+pub mod Outsides
+pub mod Puts
+pub mod Rings
+pub mod Sorts

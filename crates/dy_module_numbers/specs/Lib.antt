@@ -1,0 +1,5 @@
+pub mod Numbers
+pub mod Options
+pub mod Sorting
+pub mod Modules
+pub mod Rings
