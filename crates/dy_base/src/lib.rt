@@ -27,6 +27,3 @@ pub use list::NameList;
 pub use name::{Name, fold};
 pub use table::NameTable;
 pub use text::Text;
-
-#[cfg(test)]
-mod tests;

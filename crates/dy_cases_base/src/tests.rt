@@ -1,4 +1,4 @@
-use super::*;
+use dy_base::{ClassId, ClassOrder, NameList, NameTable, Ref};
 use std::test::Fail;
 
 fn class(row: u32) -> ClassId {
