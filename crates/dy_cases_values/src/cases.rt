@@ -5,8 +5,9 @@ use dy_base::{Fuel, Items};
 use dy_prims::{apply, dylan, io, operation_at};
 use dy_term::Program;
 use dy_values::{
-    Answer, ErrorRow, Formatted, Store, Value, ambiguous_call, first, format_text, is_false,
-    no_match, no_method, not_a_function, print, read_too_early, unhandled_line,
+    Answer, ErrorRow, Formatted, Store, Value, ambiguous_call, built_in, first, format_text,
+    is_false, no_match, no_method, not_a_function, print, read_too_early, unhandled_line,
+    wrong_class,
 };
 use itoa::Buffer;
 use std::alloc::{AllocError, Global};
@@ -152,8 +153,25 @@ fn write_test(values: &[Value], out: &mut Vec<u8>) -> Result<(), AllocError> {
     }
 }
 
-/// What comes of values, by the word for what is done: `print`, `escaped`, `format`, `test`, the
-/// number of an operation, or the name of an error.
+/// How many bytes the line of a value has that is no integer, and how it ends.
+fn write_line_end(
+    alloc: Global,
+    program: &Program,
+    store: &Store,
+    value: Value,
+    out: &mut Vec<u8>,
+) -> Result<(), AllocError> {
+    let error = wrong_class(alloc, value, built_in(9))?;
+    let line = unhandled_line(alloc, program, store, &error)?;
+    let bytes = line.bytes();
+    out.extend_from_slice(Buffer::new().format(bytes.len()).as_bytes())?;
+    out.extend_from_slice(b" bytes, the last ")?;
+    out.extend_from_slice(&bytes[bytes.len().saturating_sub(24)..])?;
+    out.extend_from_slice(b" ")
+}
+
+/// What comes of values, by the word for what is done: `print`, `escaped`, `format`, `test`,
+/// `line end`, the number of an operation, or the name of an error.
 fn write_outcome(
     alloc: Global,
     program: &Program,
@@ -168,6 +186,7 @@ fn write_outcome(
         "escaped" => write_values(alloc, program, store, true, values, fuel, out),
         "format" => write_formatted(alloc, program, store, values, fuel, out),
         "test" => write_test(values, out),
+        "line end" => write_line_end(alloc, program, store, first(values), out),
         _ => match what.parse::<u16>() {
             Ok(number) => write_applied(alloc, program, number, values, store, fuel, out),
             Err(_) => write_named(alloc, program, what, store, out),

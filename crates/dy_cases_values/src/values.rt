@@ -39,8 +39,8 @@ fn object(alloc: Global, word: &str) -> Result<Option<ObjectRow>, AllocError> {
     }
 }
 
-/// What a literal gives: a number, a character or a string between quotes, `#t`, `#f` or `#()`. It
-/// is `None` where too few units are left, and for another word.
+/// What a literal gives: a number, a character, a string or a symbol between quotes, `#t`, `#f` or
+/// `#()`. It is `None` where too few units are left, and for another word.
 fn literal(
     alloc: Global,
     word: &str,
@@ -52,6 +52,10 @@ fn literal(
         [b'#', b'f'] => make_literal(alloc, &Literal::Bool(false), store, fuel),
         [b'#', b'(', b')'] => make_literal(alloc, &Literal::Nil, store, fuel),
         [b'\'', code, b'\''] => make_literal(alloc, &Literal::Char(*code), store, fuel),
+        [b'#', b'"', name @ .., b'"'] => {
+            let place = store.symbols.add(alloc, name)? as u64;
+            Ok(Some(Value::of(Variant::Symbol(place))))
+        }
         [b'"', bytes @ .., b'"'] => {
             let text = Text::of(alloc, bytes)?;
             make_literal(alloc, &Literal::Str(text), store, fuel)
@@ -63,11 +67,75 @@ fn literal(
     }
 }
 
-/// The value of a word. `again` stands for the value before it.
+/// A pair of the last two values, or a vector of all of them. It stands in their place.
+fn held(
+    alloc: Global,
+    word: &str,
+    values: &mut Vec<Value>,
+) -> Result<Option<ObjectRow>, AllocError> {
+    match word {
+        "pair" => {
+            let (Some(tail), Some(head)) = (values.pop(), values.pop()) else {
+                return Ok(None);
+            };
+            Ok(Some(ObjectRow::Pair(head, tail)))
+        }
+        "vector" | "stretchy" => {
+            let items = Items::from_vec(values.to_vec(alloc)?);
+            values.clear();
+            Ok(Some(ObjectRow::Vector(word == "stretchy", items)))
+        }
+        _ => Ok(None),
+    }
+}
+
+/// A vector that holds a vector, and so on, of so many levels. The last one is empty.
+fn levels(alloc: Global, count: u64, store: &mut Store) -> Result<Value, AllocError> {
+    let mut outer = store.add(ObjectRow::Vector(false, Items::new(alloc)))?;
+    for _ in 1..count {
+        let mut items = Items::new(alloc);
+        items.push(outer)?;
+        outer = store.add(ObjectRow::Vector(false, items))?;
+    }
+    Ok(outer)
+}
+
+/// A vector of so many sevens.
+fn sevens(alloc: Global, count: u64, store: &mut Store) -> Result<Value, AllocError> {
+    let mut items = Items::new(alloc);
+    for _ in 0..count {
+        items.push(Value::of(Variant::Int(7)))?;
+    }
+    store.add(ObjectRow::Vector(false, items))
+}
+
+/// Ones without an end: a pair whose tail is the pair itself.
+fn endless(store: &mut Store) -> Result<Value, AllocError> {
+    let place = store.objects.len() as u64;
+    let itself = Value::of(Variant::Object(place));
+    store.add(ObjectRow::Pair(Value::of(Variant::Int(1)), itself))
+}
+
+/// A value that is built by a number: `levels N`, `sevens N`, or `endless`.
+fn built(alloc: Global, word: &str, store: &mut Store) -> Result<Option<Value>, AllocError> {
+    let (kind, behind) = word.split_once(' ').unwrap_or((word, "0"));
+    let Ok(count) = behind.parse::<u64>() else {
+        return Ok(None);
+    };
+    match kind {
+        "levels" => Ok(Some(levels(alloc, count, store)?)),
+        "sevens" => Ok(Some(sevens(alloc, count, store)?)),
+        "endless" => Ok(Some(endless(store)?)),
+        _ => Ok(None),
+    }
+}
+
+/// The value of a word. `again` stands for the value before it, and what holds values before it
+/// stands in their place.
 fn value(
     alloc: Global,
     word: &str,
-    before: &[Value],
+    before: &mut Vec<Value>,
     store: &mut Store,
     fuel: &mut Fuel,
 ) -> Result<Option<Value>, AllocError> {
@@ -76,6 +144,12 @@ fn value(
     }
     if let Some(variant) = variant(word) {
         return Ok(Some(Value::of(variant)));
+    }
+    if let Some(row) = held(alloc, word, before)? {
+        return Ok(Some(store.add(row)?));
+    }
+    if let Some(value) = built(alloc, word, store)? {
+        return Ok(Some(value));
     }
     match object(alloc, word)? {
         Some(row) => Ok(Some(store.add(row)?)),
@@ -92,7 +166,7 @@ pub(crate) fn values(
 ) -> Result<Vec<Value>, AllocError> {
     let mut values = Vec::new(alloc);
     for word in words.split('|') {
-        match value(alloc, word, &values, store, fuel)? {
+        match value(alloc, word, &mut values, store, fuel)? {
             Some(value) => values.push(value)?,
             None => return Ok(values),
         }

@@ -1,1 +1,4 @@
 pub mod Costs
+pub mod Cuts
+pub mod Names
+pub mod Printed

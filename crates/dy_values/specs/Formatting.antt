@@ -24,7 +24,7 @@ use Rattle.dy_values.specs.declared.formatting.Part.{Part}
 use Rattle.dy_values.specs.declared.formatting.Part.TheVariants.{Byte, Field}
 use Rattle.dy_values.specs.Classes.{string}
 use Rattle.dy_values.specs.Errors.{format_directive, wrong_class}
-use Rattle.dy_values.specs.Printing.{Printed, Text, Spent, after_text, and_print, costing, text_of}
+use Rattle.dy_values.specs.Printing.{Printed, Text, Spent, after_text, and_print, costing, printed}
 
 -- what a letter behind `%` stands for, in either case
 abbrev pub directive_of : ℕ → Directive
@@ -93,15 +93,10 @@ abbrev pub numeral : Base → ℤ → List ℕ
 numeral base number = sign number ++ digits (radix base) false (unsigned_abs number)
 
 -- what a directive prints of an argument that fits it
-abbrev pub field_text : Program → Store → Directive → Variant → List ℕ
-field_text program store (Integer base) (Int number) = numeral base number
-field_text program store (Any escaped) value = text_of program store escaped value
-field_text program store directive value = text_of program store false value
-
--- A printed argument costs a unit.
 abbrev pub field : Program → Store → Directive → Variant → ℕ → Printed
-field program store directive value units =
-    costing units (Text (field_text program store directive value))
+field program store (Integer base) (Int number) units = costing units (Text (numeral base number))
+field program store (Any escaped) value units = printed program store escaped value units
+field program store directive value units = printed program store false value units
 
 abbrev pub field_at : Program → Store → Directive → List Variant → ℕ → (List Variant → ℕ → Printed)
     → Printed
@@ -134,7 +129,7 @@ failing error (suc units) = Failed error units
 
 abbrev pub writing : Printed → Outcome
 writing (Text text units) = Written text units
-writing Spent = NoUnit
+writing (Spent text) = NoUnit
 
 abbrev pub unless_error : Option ErrorRow → ℕ → Printed → Outcome
 unless_error (Some error) units text = failing error units

@@ -2,13 +2,14 @@
 
 ghost use Rattle.std.specs.Prelude.{◌≡◌, ◌++◌, IfOk, OnOk};
 ghost use Rattle.dy_values.specs.Errors as errors;
+ghost use Rattle.dy_values.specs.Printing.{Prints};
 ghost use Rattle.dy_values.specs.Unhandled as unhandled;
 
 use crate::classes::{built_in, class_name};
 use crate::error::ErrorRow;
-use crate::printing::{write_class_value, write_value};
+use crate::printing::{MOST_LEVELS, write_class_value, write_value};
 use crate::store::Store;
-use dy_base::{ClassId, Text};
+use dy_base::{ClassId, Fuel, Text};
 use dy_term::{Member, Program};
 use std::alloc::{AllocError, Global};
 
@@ -32,7 +33,43 @@ fn write_type(program: &Program, members: &[Member], into: &mut Vec<u8>) -> Resu
     }
 }
 
+/// What is printed of an error's condition. It is false where the units end first.
+#[tactic(auto, using(crate::proofs::Printed::prints))]
 fn write_error(
+    program: &Program,
+    store: &Store,
+    error: &ErrorRow,
+    fuel: &mut Fuel,
+    into: &mut Vec<u8>,
+) -> Result<bool, AllocError>
+    ensures { IfOk result (λ done. Prints
+        (unhandled.error_printed program.now store.now error.now fuel.old.left)
+        done into.old.items into.new.items fuel.new.left) }
+{
+    if !fuel.take() {
+        return Ok(false);
+    }
+    match error {
+        ErrorRow::Simple(text) => into.extend_from_slice(text.bytes())?,
+        ErrorRow::WrongType(value, expected) => {
+            if !write_value(program, store, MOST_LEVELS - 1, true, *value, fuel, into)? {
+                return Ok(false);
+            }
+            into.extend_from_slice(b" is not of type ")?;
+            if !fuel.take() {
+                return Ok(false);
+            }
+            write_type(program, expected.members.as_slice(), into)?;
+        }
+    }
+    Ok(true)
+}
+
+/// How many units the text of an unhandled error has.
+const UNITS: u64 = 65_536;
+
+#[tactic(auto, using(crate::proofs::Cuts::cuts))]
+fn write_cut(
     program: &Program,
     store: &Store,
     error: &ErrorRow,
@@ -41,18 +78,16 @@ fn write_error(
     ensures { OnOk result (into.new.items
         ≡ into.old.items ++ unhandled.error_text program.now store.now error.now) }
 {
-    match error {
-        ErrorRow::Simple(text) => into.extend_from_slice(text.bytes()),
-        ErrorRow::WrongType(value, expected) => {
-            write_value(program, store, true, value, into)?;
-            into.extend_from_slice(b" is not of type ")?;
-            write_type(program, expected.members.as_slice(), into)
-        }
+    let mut fuel = Fuel { left: UNITS };
+    if !write_error(program, store, error, &mut fuel, into)? {
+        into.extend_from_slice(b"...")?;
     }
+    Ok(())
 }
 
 /// The line that tells of an error which nothing handles (DRM 7, "Conditions"): the class of its
-/// condition, and the text. It costs the run nothing.
+/// condition, and the text, which is cut where it prints more than 65,536 values. It costs the run
+/// nothing.
 pub fn unhandled_line(
     alloc: Global,
     p: &Program,
@@ -64,6 +99,6 @@ pub fn unhandled_line(
     let mut line = Vec::from_slice(alloc, b"unhandled ")?;
     line.extend_from_slice(class_name(p, error_class(error)))?;
     line.extend_from_slice(b": ")?;
-    write_error(p, s, error, &mut line)?;
+    write_cut(p, s, error, &mut line)?;
     Ok(Text::from_vec(line))
 }

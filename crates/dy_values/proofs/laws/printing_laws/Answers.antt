@@ -1,5 +1,5 @@
-use Rattle.dy_values.proofs.Costs.{costs_one, filled_costs}
+use Rattle.dy_values.proofs.Costs.{value_costs, alone_costs, parts_cost}
 use Rattle.dy_values.proofs.laws.printing_laws.Goals as goal
 
 pub returns : goal.returns
-returns c = record { values = λ program store escaped value units text left e. costs_one units _ text left e; texts = λ program store parts arguments units text left e h. filled_costs program store parts arguments units e text left h }
+returns c = record { alone = alone_costs; values = value_costs; texts = parts_cost }
