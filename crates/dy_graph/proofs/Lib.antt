@@ -1,0 +1,13 @@
+pub mod Added
+pub mod AllMade
+pub mod Begins
+pub mod Brought
+pub mod Clauses
+pub mod Lacks
+pub mod Lent
+pub mod Promised
+pub mod Rising
+pub mod Sources
+pub mod Steps
+pub mod TwoNames
+pub mod Whole

@@ -1,0 +1,10 @@
+//! The table of a library's modules, from the forms that define it (DRM 4, "Modules" and
+//! "Libraries").
+#![tactic(auto)]
+
+mod clash;
+mod judging;
+mod promises;
+mod table;
+
+pub use table::graph;
