@@ -1,0 +1,10 @@
+pub mod Arms
+pub mod Blocks
+pub mod Calls
+pub mod Clauses
+pub mod Lambdas
+pub mod Leaving
+pub mod Lets
+pub mod Loops
+pub mod Next
+pub mod Steps
