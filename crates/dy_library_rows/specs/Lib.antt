@@ -1,0 +1,3 @@
+pub mod Libraries
+pub mod Names
+pub mod Seen
