@@ -3,11 +3,11 @@
 
 usage: classes.py PROGRAM
 
-`PROGRAM` is the program of the crate dy_order_classes, which `rt run` leaves in
-crates/dy_order_classes/out. It orders the classes of a chain, in which each class has the one before
-it as its superclass, and of a lattice, whose classes have eight superclasses each, and prints the sum
-of the lengths of the orders. A call reads the order of each direct superclass once: the elements that
-are read are what a time is divided by.
+`PROGRAM` is the program of the crate dy_measure, which `rt run` leaves in crates/dy_measure/out. It
+orders the classes of a chain, in which each class has the one before it as its superclass, and of a
+lattice, whose classes have eight superclasses each, and prints the sum of the lengths of the orders.
+A call reads the order of each direct superclass once: the elements that are read are what a time is
+divided by.
 
 The status is 1 where time grows by more than 1.3 for each doubling of the elements, beyond the
 doubling itself, or where another sum is printed than the graph has.

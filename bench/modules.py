@@ -3,8 +3,8 @@
 
 usage: modules.py PROGRAM
 
-`PROGRAM` is the program of the crate dy_count_modules, which `rt run` leaves in
-crates/dy_count_modules/out. Files of forms of modules are made in a temporary folder:
+`PROGRAM` is the program of the crate dy_measure, which `rt run` leaves in crates/dy_measure/out.
+Files of forms of modules are made in a temporary folder:
 
 - wide: modules that export names of their own, which one more module uses with a prefix for each;
 - chain: modules of which each exports again, under the same names, what the one before it exports.
@@ -62,7 +62,7 @@ def seconds(program, path):
     best = (math.inf, math.inf)
     for _ in range(RUNS):
         begun = time.perf_counter()
-        child = subprocess.Popen([program, path], stdout=subprocess.DEVNULL)
+        child = subprocess.Popen([program, "modules", path], stdout=subprocess.DEVNULL)
         _, status, usage = os.wait4(child.pid, 0)
         elapsed = time.perf_counter() - begun
         child.returncode = os.waitstatus_to_exitcode(status)

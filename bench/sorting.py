@@ -3,10 +3,10 @@
 
 usage: sorting.py PROGRAM
 
-`PROGRAM` is the program of the crate dy_sort_methods, which `rt run` leaves in
-crates/dy_sort_methods/out. It sorts 64, 128, 256 and 512 methods, each on a class below the class
-of the one before it, so that the most specific one stands last each time: no order of the text
-takes more comparisons. 512 is the most that a generic function may have.
+`PROGRAM` is the program of the crate dy_measure, which `rt run` leaves in crates/dy_measure/out. It
+sorts 64, 128, 256 and 512 methods, each on a class below the class of the one before it, so that
+the most specific one stands last each time: no order of the text takes more comparisons. 512 is the
+most that a generic function may have.
 
 The status is 1 where a number is wrong, or where the time grows by more than 2.3 times the square
 of the number of methods from one count to the next.
@@ -28,7 +28,8 @@ def run(program, count, times):
     best = None
     for _ in range(RUNS):
         start = time.perf_counter()
-        done = subprocess.run([program, str(count), str(times)], capture_output=True, check=False)
+        words = [program, "sorting", f"{count}x{times}"]
+        done = subprocess.run(words, capture_output=True, check=False)
         seconds = time.perf_counter() - start
         wanted = f"{count if times else 0}\n".encode()
         if done.returncode != 0 or done.stdout != wanted:

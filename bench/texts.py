@@ -3,7 +3,7 @@
 
 usage: texts.py PROGRAM
 
-`PROGRAM` is the program of the crate dy_format_file, which `rt run` leaves in crates/dy_format_file/out.
+`PROGRAM` is the program of the crate dy_measure, which `rt run` leaves in crates/dy_measure/out.
 Texts of 64 KiB to 1 MiB are made in a temporary folder: words alone, directives among words, and
 nothing but directives. What is printed is compared with what Python makes of the same text.
 
@@ -65,7 +65,7 @@ def shortest(work):
 
 
 def printed(program, path):
-    run = subprocess.run([program, path], capture_output=True, check=False)
+    run = subprocess.run([program, "texts", path], capture_output=True, check=False)
     if run.returncode != 0:
         raise Failed(f"{program} {path}: status {run.returncode}")
     return run.stdout

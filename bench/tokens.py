@@ -3,7 +3,7 @@
 
 usage: tokens.py PROGRAM
 
-`PROGRAM` is the program of the crate dy_count_tokens, which `rt run` leaves in crates/dy_count_tokens/out.
+`PROGRAM` is the program of the crate dy_measure, which `rt run` leaves in crates/dy_measure/out.
 Texts of 64 KiB to 4 MiB are made in a temporary folder: definitions of classes, generic functions,
 methods and macros with comments. Beside it stand Python's tokenize on the same program in Python's
 syntax, a lexer of one regular expression for Dylan's token table in Python's re, and the lexer of
@@ -150,7 +150,7 @@ def shortest(work):
 
 
 def counted(program, path):
-    run = subprocess.run([program, path], capture_output=True, check=False)
+    run = subprocess.run([program, "tokens", path], capture_output=True, check=False)
     if run.returncode != 0:
         raise Failed(f"{program} {path}: status {run.returncode}")
     return int(run.stdout)
@@ -181,7 +181,7 @@ def measured(program, folder):
             raise Failed(f"a text of {size} bytes has other tokens than it was made with")
         taken = max(shortest(lambda: counted(program, path)) - base, SHORTEST)
         factor = "" if before is None else (taken / before / 4) ** 0.5
-        print(row("dy_count_tokens", size, taken, "" if before is None else f"{factor:.2f}"), flush=True)
+        print(row("lex", size, taken, "" if before is None else f"{factor:.2f}"), flush=True)
         if before is not None and factor > MOST_GROWTH:
             raise Failed(f"the time up to {size} bytes grows by {factor:.2f} a doubling, beyond the doubling")
         before = taken
