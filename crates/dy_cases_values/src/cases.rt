@@ -3,11 +3,11 @@
 use crate::values::values;
 use dy_base::{Fuel, Items};
 use dy_prims::{apply, dylan, io, operation_at};
+use dy_printing::{format_text, print, unhandled_line};
 use dy_term::Program;
 use dy_values::{
-    Answer, ErrorRow, Formatted, Store, Value, ambiguous_call, built_in, first, format_text,
-    is_false, no_match, no_method, not_a_function, print, read_too_early, unhandled_line,
-    wrong_class,
+    Answer, ErrorRow, Formatted, Store, Value, ambiguous_call, built_in, first, is_false, no_match,
+    no_method, not_a_function, read_too_early, wrong_class,
 };
 use itoa::Buffer;
 use std::alloc::{AllocError, Global};

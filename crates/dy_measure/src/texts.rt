@@ -3,8 +3,9 @@
 use crate::failure::Failure;
 use dy_base::{Fuel, Items};
 use dy_prims::{dylan, io as io_library};
+use dy_printing::format_text;
 use dy_term::Program;
-use dy_values::{Formatted, Store, Value, Variant, format_text, make_string};
+use dy_values::{Formatted, Store, Value, Variant, make_string};
 use std::alloc::{AllocError, Global};
 
 /// More units than a file can cost.

@@ -1,4 +1,1 @@
-pub mod Costs
-pub mod Cuts
 pub mod Names
-pub mod Printed

@@ -1,11 +1,7 @@
 pub mod Classes
 pub mod Errors
-pub mod Escapes
-pub mod Formatting
-pub mod Fronts
 pub mod Identity
-pub mod Printing
+pub mod Objects
 pub mod Spending
 pub mod Stores
-pub mod Unhandled
 pub mod Words
