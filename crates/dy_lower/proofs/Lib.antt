@@ -1,0 +1,4 @@
+pub mod Coded
+pub mod Counted
+pub mod Made
+pub mod Repeating

@@ -1,0 +1,12 @@
+pub mod Bodies
+pub mod Flat
+pub mod Items
+pub mod Linking
+pub mod Once
+pub mod Parts
+pub mod Readiness
+pub mod Sameness
+pub mod Stretches
+pub mod Tables
+pub mod Terms
+pub mod Units
