@@ -1,0 +1,6 @@
+//! Lowered code may run.
+#![tactic(auto)]
+
+mod laws;
+
+pub use laws::lowered_valid_laws;

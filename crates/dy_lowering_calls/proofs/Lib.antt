@@ -1,0 +1,13 @@
+pub mod Belonging
+pub mod Binding
+pub mod Callees
+pub mod Entries
+pub mod Instances
+pub mod Methods
+pub mod Nested
+pub mod Numbers
+pub mod Parameters
+pub mod Returning
+pub mod Signals
+pub mod Standing
+pub mod Taking

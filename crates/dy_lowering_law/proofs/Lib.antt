@@ -1,0 +1,12 @@
+pub mod Arguments
+pub mod Bodies
+pub mod Cases
+pub mod Exiting
+pub mod Leading
+pub mod Lets
+pub mod Lines
+pub mod Literals
+pub mod Names
+pub mod Operating
+pub mod Same
+pub mod Values

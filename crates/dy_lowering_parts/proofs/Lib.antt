@@ -1,0 +1,9 @@
+pub mod Answering
+pub mod Binding
+pub mod Bound
+pub mod Closing
+pub mod Looping
+pub mod Reaching
+pub mod Saved
+pub mod Selecting
+pub mod Selects

@@ -1,0 +1,12 @@
+pub mod Layers
+pub mod Scoping
+pub mod Readied
+pub mod Numbered
+pub mod Terms
+pub mod Inner
+pub mod Laid
+pub mod Staying
+pub mod Meaning
+pub mod Calling
+pub mod Tasks
+pub mod Programs
