@@ -1,0 +1,6 @@
+//! What tests of programs share: the program of a text.
+#![tactic(auto)]
+
+mod programs;
+
+pub use programs::program_of;
