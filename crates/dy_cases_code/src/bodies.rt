@@ -3,7 +3,7 @@
 use dy_core_text::Written;
 use dy_lambdas::{count, count_with_inner, lambdas_inside};
 use dy_layouts::Layout;
-use dy_lower::{Buffer, Refusal, emit};
+use dy_lower_terms::{Buffer, Refusal, emit};
 use dy_show_code::write_code;
 use dy_term::{Lambda, LibraryRow, MethodCode, Program, Term, TopTerm};
 use std::alloc::{AllocError, Global};

@@ -4,7 +4,7 @@ use crate::literals::write_literal;
 use crate::names::write_name;
 use dy_base::{BindingId, GenericId, What};
 use dy_core_text::Written;
-use dy_lower::{Buffer, Flat};
+use dy_lower_parts::{Buffer, Flat};
 use dy_term::Program;
 
 /// A word, and a number.

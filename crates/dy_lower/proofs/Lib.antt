@@ -1,4 +1,0 @@
-pub mod Coded
-pub mod Counted
-pub mod Made
-pub mod Repeating

@@ -1,0 +1,7 @@
+//! From terms to flat code.
+#![tactic(auto)]
+
+mod terms;
+
+pub use dy_lower_parts::{Buffer, Flat, Refusal, put_cells};
+pub use terms::emit;
