@@ -9,4 +9,6 @@ pub mod Sameness
 pub mod Stretches
 pub mod Tables
 pub mod Terms
+pub mod Turns
 pub mod Units
+pub mod Words

@@ -14,6 +14,7 @@ use Rattle.dy_term.specs.declared.term.BlockRow.{BlockRow, BlockRow-F, fold-Bloc
 use Rattle.dy_term.specs.declared.term.ForRow.{ForRow, ForRow-F, fold-ForRow}
 use Rattle.dy_term.specs.declared.term.Lambda.{Lambda, Lambda-F, fold-Lambda}
 use Rattle.dy_meaning.specs.Globals.{is_variable}
+use Rattle.dy_lowered.specs.Words.{is_word_literal}
 
 abbrev pub all_ready : List Bool → Bool
 all_ready [] = true
@@ -61,7 +62,7 @@ module _ (first last : ℕ) where
   item_ready (Item-F.Handler type function) = false
 
   abbrev pub term_ready : Term-F Bool Bool Bool Bool Bool Bool → Bool
-  term_ready (Term-F.Lit value) = true
+  term_ready (Term-F.Lit value) = is_word_literal value
   term_ready (Term-F.Local local) = is_there local
   term_ready (Term-F.Global binding) = is_variable binding.what
   term_ready (Term-F.ClassName class) = true

@@ -1,32 +1,37 @@
 -- The code of each term leaves what lies in the frame as it was, by induction on terms.
-use Rattle.std.proofs.Common.{◌≡◌, ℕ, suc, ◌+◌, List, [], ◌∷◌, length, map, Option, Some, None, refl, sym, ap, subst}
+use Rattle.std.proofs.Common.{◌≡◌, ℕ, suc, ◌+◌, Bool, ℤ, List, [], ◌∷◌, length, map, Option, Some, None, refl, sym, ap, subst}
 use Rattle.std.specs.Option.{option_map}
+use Rattle.dy_term.specs.declared.term.Limit.{Limit}
 use Rattle.dy_term.specs.declared.term.ForClause.{ForClause, ForClause-F, roll-ForClause, map-ForClause, para-roll-ForClause}
 use Rattle.dy_term.specs.declared.term.Item.{Item, Item-F, roll-Item, map-Item, para-roll-Item}
-use Rattle.dy_term.specs.declared.term.Term.{Term, Term-F, roll-Term, map-Term, para-roll-Term}
+use Rattle.dy_term.specs.declared.term.Term.{Term, Term-F, out-Term, roll-Term, map-Term, para-roll-Term}
 use Rattle.dy_term.specs.declared.term.BlockRow.{BlockRow, BlockRow-F, roll-BlockRow, map-BlockRow, para-roll-BlockRow}
 use Rattle.dy_term.specs.declared.term.ForRow.{ForRow, ForRow-F, roll-ForRow, map-ForRow, para-roll-ForRow}
 use Rattle.dy_term.specs.declared.term.Lambda.{Lambda}
 use Rattle.dy_code.specs.Fetching.{Instruction}
 use Rattle.dy_code.specs.Fetching as instr
 use Rattle.dy_code.specs.Validity.{Every}
-use Rattle.dy_meaning.specs.Lambdas.{lambdas_in, lambdas_in_item}
+use Rattle.dy_meaning.specs.Lambdas.{lambdas_in, lambdas_in_clause, lambdas_in_item}
 use Rattle.dy_meaning.specs.Layouts.{Layout, place_of, captured_by}
-use Rattle.dy_meaning.specs.Numbering.{Numbered, terms_from, behind_terms, items_from, branches_from, behind_branches, arms_from, behind_arms, held_from, behind_held}
-use Rattle.dy_meaning.proofs.Induction.{by_terms, Clauses_with, Items_with, Terms_with, Blocks_with, Fors_with, Lambdas_with, item_of, term_of}
+use Rattle.dy_meaning.specs.Numbering.{Numbered, terms_from, behind_terms, items_from, branches_from, behind_branches, arms_from, behind_arms, held_from, behind_held, clauses_from, behind_clauses, second_from, behind_second}
+use Rattle.dy_meaning.proofs.Induction.{by_terms, Clauses_with, Items_with, Terms_with, Blocks_with, Fors_with, Lambdas_with, clause_of, item_of, term_of, for_of}
 use Rattle.dy_lowered.specs.Flat.{Code, one}
 use Rattle.dy_lowered.specs.Parts.{Part, select}
-use Rattle.dy_lowered.specs.Terms.{class_named, generic_named, function_named, methods_from, clause_coded, item_coded, term_coded, block_coded, for_coded, code_of, item_code, clause_code, block_code, for_code, lambda_code}
+use Rattle.dy_lowered.specs.Turns.{Clause, for_loop}
+use Rattle.dy_lowered.specs.Terms.{class_named, generic_named, function_named, number_of, known_or, limit_from, step_from, methods_from, clause_coded, item_coded, term_coded, block_coded, for_coded, code_of, item_code, clause_code, block_code, for_code, lambda_code}
 use Rattle.dy_lowered_valid.specs.Shapes.{IsEven}
+use Rattle.dy_lowered_valid.proofs.Counting.{IsAmountEven, IsLimitEven}
 use Rattle.dy_lowered_valid.proofs.Laying.{Takes, lays_nothing, goes_const, goes_global, goes_set_global, goes_search, goes_op}
 use Rattle.dy_lowered_valid.proofs.Pieces.{even_one, even_join, even_read, even_assigning, even_with_arguments, even_calling, ArePairsEven, even_branching, even_both, even_either, AreArmsEven, IsHeldEven, even_select, even_letting, even_closing, even_local_methods, IsPartEven, even_body, even_loop}
+use Rattle.dy_lowered_valid.proofs.Fors.{even_for_loop}
+use Rattle.dy_lowered_valid.proofs.Turning.{IsClauseEven, IsTestEven}
 
 -- a part, and what is made of it
 abbrev pub beside : {A B : Type 0} → (A → B) → A → A × B
 beside make part = (part, make part)
 
 module _ (layout : Layout) where
-  abbrev clause_layer : ForClause-F ForClause Item Term BlockRow ForRow Lambda → ℕ → Code
+  abbrev pub clause_layer : ForClause-F ForClause Item Term BlockRow ForRow Lambda → ℕ → Clause
   clause_layer x = clause_coded layout (map-ForClause _ _ _ _ _ _ _ _ _ _ _ _ (beside (clause_code layout)) (beside (item_code layout)) (beside (code_of layout)) (beside (block_code layout)) (beside (for_code layout)) (beside (lambda_code layout)) x)
 
   abbrev pub item_layer : Item-F ForClause Item Term BlockRow ForRow Lambda → ℕ → Part
@@ -38,10 +43,10 @@ module _ (layout : Layout) where
   abbrev block_layer : BlockRow-F ForClause Item Term BlockRow ForRow Lambda → ℕ → Code
   block_layer x = block_coded layout (map-BlockRow _ _ _ _ _ _ _ _ _ _ _ _ (beside (clause_code layout)) (beside (item_code layout)) (beside (code_of layout)) (beside (block_code layout)) (beside (for_code layout)) (beside (lambda_code layout)) x)
 
-  abbrev for_layer : ForRow-F ForClause Item Term BlockRow ForRow Lambda → ℕ → Code
+  abbrev pub for_layer : ForRow-F ForClause Item Term BlockRow ForRow Lambda → ℕ → Code
   for_layer x = for_coded layout (map-ForRow _ _ _ _ _ _ _ _ _ _ _ _ (beside (clause_code layout)) (beside (item_code layout)) (beside (code_of layout)) (beside (block_code layout)) (beside (for_code layout)) (beside (lambda_code layout)) x)
 
-  clause_is : (x : ForClause-F ForClause Item Term BlockRow ForRow Lambda) → clause_code layout (roll-ForClause x) ≡ clause_layer x
+  pub clause_is : (x : ForClause-F ForClause Item Term BlockRow ForRow Lambda) → clause_code layout (roll-ForClause x) ≡ clause_layer x
   clause_is = para-roll-ForClause _ _ _ _ _ _ _ _ _ _ _ _
 
   pub item_is : (x : Item-F ForClause Item Term BlockRow ForRow Lambda) → item_code layout (roll-Item x) ≡ item_layer x
@@ -57,7 +62,7 @@ module _ (layout : Layout) where
   for_is = para-roll-ForRow _ _ _ _ _ _ _ _ _ _ _ _
 
   abbrev C : ForClause → Type 0
-  C x = (n : ℕ) → IsEven (clause_code layout x n)
+  C x = (n : ℕ) → IsClauseEven (clause_code layout x n)
 
   abbrev I : Item → Type 0
   I x = (n : ℕ) → IsPartEven (item_code layout x n)
@@ -74,8 +79,8 @@ module _ (layout : Layout) where
   abbrev L : Lambda → Type 0
   L x = Unit {0}
 
-  even_clause : (x : ForClause-F ForClause Item Term BlockRow ForRow Lambda) → ((n : ℕ) → IsEven (clause_layer x n)) → C (roll-ForClause x)
-  even_clause x h = subst (λ (make : ℕ → Code). (n : ℕ) → IsEven (make n)) (sym (clause_is x)) h
+  even_clause : (x : ForClause-F ForClause Item Term BlockRow ForRow Lambda) → ((n : ℕ) → IsClauseEven (clause_layer x n)) → C (roll-ForClause x)
+  even_clause x h = subst (λ (make : ℕ → Clause). (n : ℕ) → IsClauseEven (make n)) (sym (clause_is x)) h
 
   even_item : (x : Item-F ForClause Item Term BlockRow ForRow Lambda) → ((n : ℕ) → IsPartEven (item_layer x n)) → I (roll-Item x)
   even_item x h = subst (λ (make : ℕ → Part). (n : ℕ) → IsPartEven (make n)) (sym (item_is x)) h
@@ -201,5 +206,82 @@ module _ (layout : Layout) where
   item_even (Item-F.LetMethods methods) = even_item _ (λ n. even_local_methods (methods_from layout (coded_methods methods) n))
   item_even (Item-F.Handler type y) = even_item _ (λ n. y.1 n)
 
+  -- `for`
+  abbrev A_clause : Type 0
+  A_clause = Clauses_with C I T K F L
+
+  abbrev A_limit : Type 0
+  A_limit = Limit × A_term
+
+  abbrev A_test : Type 0
+  A_test = Bool × A_term
+
+  abbrev coded_limit : Option A_limit → Option (Limit × Numbered Term Code)
+  coded_limit y = option_map (λ (p : Limit × Term). (p.0, beside (code_of layout) p.1)) (option_map (λ (p : A_limit). (p.0, p.1.0)) y)
+
+  abbrev coded_test : Option A_test → Option (Bool × Numbered Term Code)
+  coded_test y = option_map (λ (p : Bool × Term). (p.0, beside (code_of layout) p.1)) (option_map (λ (p : A_test). (p.0, p.1.0)) y)
+
+  abbrev coded_clauses : List A_clause → List (Numbered ForClause Clause)
+  coded_clauses ys = map (beside (clause_code layout)) (map (λ y. y.0) ys)
+
+  amount_even : (known : Option ℤ) (code : Code) → IsEven code → IsAmountEven (known_or known code)
+  amount_even None code h = h
+  amount_even (Some number) code h = tt
+
+  limit_even : (y : Option A_limit) (n : ℕ) → IsLimitEven (limit_from (coded_limit y) n)
+  limit_even None n = tt
+  limit_even (Some y) n = amount_even (number_of (out-Term y.1.0)) (code_of layout y.1.0 n) (y.1.1 n)
+
+  step_even : (y : Option A_term) (n : ℕ) → IsAmountEven (step_from (coded_held y) n)
+  step_even None n = tt
+  step_even (Some y) n = amount_even (number_of (out-Term y.0)) (code_of layout y.0 n) (y.1 n)
+
+  test_even : (y : Option A_test) (n : ℕ) → IsTestEven (second_from (coded_test y) n)
+  test_even None n = tt
+  test_even (Some y) n = y.1.1 n
+
+  clauses_even : (ys : List A_clause) (n : ℕ) → Every IsClauseEven (clauses_from (coded_clauses ys) n)
+  clauses_even [] n = tt
+  clauses_even (y ∷ ys) n = (y.1 n, clauses_even ys (n + length (lambdas_in_clause y.0)))
+
+  counts_even : (s : A_term) (y : Option A_limit) (t : Option A_term) (n : ℕ) → IsEven (code_of layout s.0 n)
+      × IsLimitEven (limit_from (coded_limit y) (n + length (lambdas_in s.0))) × IsAmountEven (step_from (coded_held t) (behind_second (coded_limit y) (n + length (lambdas_in s.0))))
+  counts_even s y t n =
+      let m = n + length (lambdas_in s.0) in
+      (s.1 n, limit_even y m, step_even t (behind_second (coded_limit y) m))
+
+  abbrev A_clause_row : Type 0
+  A_clause_row = ForClause-F A_clause An_item A_term (Blocks_with C I T K F L) (Fors_with C I T K F L) (Lambdas_with C I T K F L)
+
+  clause_even : (y : A_clause_row) → C (clause_of C I T K F L y)
+  clause_even (ForClause-F.Then local type s t) = even_clause _ (λ n. (s.1 n, t.1 (n + length (lambdas_in s.0))))
+  clause_even (ForClause-F.In local type c) = even_clause _ (λ n. (lays_nothing, lays_nothing))
+  clause_even (ForClause-F.From local type s None None) = even_clause _ (λ n. counts_even s None None n)
+  clause_even (ForClause-F.From local type s None (Some t)) = even_clause _ (λ n. counts_even s None (Some t) n)
+  clause_even (ForClause-F.From local type s (Some y) None) = even_clause _ (λ n. counts_even s (Some y) None n)
+  clause_even (ForClause-F.From local type s (Some y) (Some t)) = even_clause _ (λ n. counts_even s (Some y) (Some t) n)
+
+  turns_even : (ys : List A_clause) (t : Option A_test) (b : A_term) (f : Option A_term) (n : ℕ)
+      → IsEven (for_loop (clauses_from (coded_clauses ys) n) (second_from (coded_test t) (behind_clauses (coded_clauses ys) n)) (code_of layout b.0 (behind_second (coded_test t) (behind_clauses (coded_clauses ys) n)))
+      (held_from (coded_held f) (behind_second (coded_test t) (behind_clauses (coded_clauses ys) n) + length (lambdas_in b.0))))
+  turns_even ys t b f n =
+      let m = behind_clauses (coded_clauses ys) n in
+      let k = behind_second (coded_test t) m in
+      let j = k + length (lambdas_in b.0) in
+      even_for_loop (clauses_from (coded_clauses ys) n) (second_from (coded_test t) m) (code_of layout b.0 k) (held_from (coded_held f) j) (clauses_even ys n) (test_even t m) (b.1 k) (held_even f j)
+
+  abbrev A_for_row : Type 0
+  A_for_row = ForRow-F A_clause An_item A_term (Blocks_with C I T K F L) (Fors_with C I T K F L) (Lambdas_with C I T K F L)
+
+  abbrev a_for : List A_clause → Option A_test → A_term → Option A_term → A_for_row
+  a_for cs t b f = record { clauses = cs; test = t; body = b; finally = f }
+
+  for_by : (cs : List A_clause) (t : Option A_test) (b : A_term) (f : Option A_term) → F (for_of C I T K F L (a_for cs t b f))
+  for_by cs None b None = even_for _ (λ n. turns_even cs None b None n)
+  for_by cs None b (Some f) = even_for _ (λ n. turns_even cs None b (Some f) n)
+  for_by cs (Some t) b None = even_for _ (λ n. turns_even cs (Some t) b None n)
+  for_by cs (Some t) b (Some f) = even_for _ (λ n. turns_even cs (Some t) b (Some f) n)
+
   pub even_code : (term : Term) (number : ℕ) → IsEven (code_of layout term number)
-  even_code = by_terms C I T K F L (λ y. even_clause _ (λ n. lays_nothing)) item_even term_even (λ y. even_block _ (λ n. lays_nothing)) (λ y. even_for _ (λ n. lays_nothing)) (λ y. tt)
+  even_code = by_terms C I T K F L clause_even item_even term_even (λ y. even_block _ (λ n. lays_nothing)) (λ y. for_by y.clauses y.test y.body y.finally) (λ y. tt)

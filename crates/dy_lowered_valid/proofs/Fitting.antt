@@ -55,7 +55,7 @@ module _ (made : ℕ → ℕ → Type 0) (bodies : List FlatBody) (locals captur
   fit_put (Own number in_cell) h = ((h, tt), tt)
   fit_put (Captured number) h = tt
 
-  fit_cell : (place : Place) → There place → Fit (cell place)
+  pub fit_cell : (place : Place) → There place → Fit (cell place)
   fit_cell (Own number true) h = ((h, tt), tt)
   fit_cell (Own number false) h = tt
   fit_cell (Captured number) h = tt

@@ -1,10 +1,14 @@
 pub mod Choosing
+pub mod Counting
 pub mod Decoding
 pub mod Evenness
 pub mod Fetched
 pub mod Fitting
+pub mod Fors
 pub mod Laying
+pub mod Leaving
 pub mod Naming
+pub mod Operands
 pub mod Pieces
 pub mod Positions
 pub mod Reaching
@@ -13,7 +17,11 @@ pub mod Safety
 pub mod Sameness
 pub mod Scopes
 pub mod Securing
+pub mod Several
 pub mod Soundness
+pub mod Straight
 pub mod Tables
+pub mod Turning
 pub mod Validating
+pub mod Walking
 pub mod Wholes

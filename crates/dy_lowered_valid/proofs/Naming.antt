@@ -1,36 +1,39 @@
 -- The code of a term that is in scope names what is there.
-use Rattle.std.proofs.Common.{◌≡◌, ℕ, zero, suc, ◌+◌, ◌<◌, ◌≤◌, Bool, true, false, ◌&&◌, ◌||◌, List, [], ◌∷◌, ◌++◌, length, map, Option, Some, None, slice_get, refl, sym, ap, ◌∙◌, subst, arith, length-append}
+use Rattle.std.proofs.Common.{◌≡◌, ℤ, ℕ, zero, suc, ◌+◌, ◌<◌, ◌≤◌, Bool, true, false, ◌&&◌, ◌||◌, List, [], ◌∷◌, ◌++◌, length, map, Option, Some, None, slice_get, refl, sym, ap, ◌∙◌, subst, arith, length-append}
 use Rattle.std.specs.Prelude.{flat_map, nat_eq, nat_le, nat_lt}
 use Rattle.std.specs.List.{list_all}
 use Rattle.std.specs.Option.{option_map}
 use Rattle.std.proofs.lemmas.List.{length-map}
 use Rattle.dy_term.specs.declared.types.DyType.{DyType}
-use Rattle.dy_term.specs.declared.term.ForClause.{ForClause}
+use Rattle.dy_term.specs.declared.term.Limit.{Limit}
+use Rattle.dy_term.specs.declared.term.ForClause.{ForClause, ForClause-F, roll-ForClause, map-ForClause, fold-roll-ForClause}
 use Rattle.dy_term.specs.declared.term.Item.{Item, Item-F, roll-Item, map-Item, fold-roll-Item}
 use Rattle.dy_term.specs.declared.term.Term.{Term, Term-F, out-Term, roll-Term, map-Term, fold-roll-Term}
 use Rattle.dy_term.specs.declared.term.BlockRow.{BlockRow, BlockRow-F}
-use Rattle.dy_term.specs.declared.term.ForRow.{ForRow, ForRow-F}
+use Rattle.dy_term.specs.declared.term.ForRow.{ForRow, ForRow-F, roll-ForRow, map-ForRow, fold-roll-ForRow}
 use Rattle.dy_term.specs.declared.term.Lambda.{Lambda, out-Lambda}
-use Rattle.dy_captures.specs.Marks.{Marks, join, join_all, join_some, join_branches, join_arms, join_methods, item_marks, term_marks, marks_of_clause, marks_of_item, marks_of, marks_of_block, marks_of_for, marks_of_lambda, is_captured_by}
+use Rattle.dy_captures.specs.Marks.{Marks, join, join_all, join_some, join_branches, join_arms, join_limit, join_methods, clause_marks, item_marks, term_marks, for_marks, marks_of_clause, marks_of_item, marks_of, marks_of_block, marks_of_for, marks_of_lambda, is_captured_by}
 use Rattle.dy_outcome.specs.declared.place.Place.{Place}
 use Rattle.dy_code.specs.Fetching as instr
 use Rattle.dy_code.specs.Validity.{Every}
-use Rattle.dy_meaning.specs.Lambdas.{of_all, of_held, of_pairs, of_arms, with_inner, lambdas_in, lambdas_in_item, lambdas_within}
+use Rattle.dy_meaning.specs.Lambdas.{of_all, of_held, of_pairs, of_arms, of_second, with_inner, lambdas_in, lambdas_in_clause, lambdas_in_item, lambdas_in_for, lambdas_within}
 use Rattle.dy_meaning.specs.Layouts.{Layout, with_last, all_below, captured_by, place_of}
-use Rattle.dy_meaning.specs.Numbering.{Numbered, terms_from, behind_terms, items_from, branches_from, behind_branches, arms_from, behind_arms, held_from, behind_held}
-use Rattle.dy_meaning.proofs.Induction.{by_terms, Clauses_with, Items_with, Terms_with, Blocks_with, Fors_with, Lambdas_with, item_of, term_of, block_of, for_of}
+use Rattle.dy_meaning.specs.Numbering.{Numbered, terms_from, behind_terms, items_from, branches_from, behind_branches, arms_from, behind_arms, held_from, behind_held, clauses_from, behind_clauses, second_from, behind_second}
+use Rattle.dy_meaning.proofs.Induction.{by_terms, Clauses_with, Items_with, Terms_with, Blocks_with, Fors_with, Lambdas_with, clause_of, item_of, term_of, block_of, for_of}
 use Rattle.dy_lowered.specs.Bodies.{FlatBody}
 use Rattle.dy_lowered.specs.Flat.{Code, one}
 use Rattle.dy_lowered.specs.Parts.{truth, assigned, first_alone, select, Part}
+use Rattle.dy_lowered.specs.Turns.{Clause, for_loop}
 use Rattle.dy_lowered.specs.Readiness.{is_own, is_set, with_rest}
-use Rattle.dy_lowered.specs.Terms.{function_named, methods_from, code_of, item_code, for_code, block_code, lambda_code}
-use Rattle.dy_lowered_valid.specs.Scoped.{all_scoped, held_scoped, pairs_scoped, arms_scoped, methods_scoped, are_own, is_item_scoped, is_scoped, is_lambda_scoped}
+use Rattle.dy_lowered.specs.Terms.{function_named, number_of, known_or, limit_from, step_from, methods_from, code_of, item_code, clause_code, for_code, block_code, lambda_code}
+use Rattle.dy_lowered_valid.specs.Scoped.{all_scoped, held_scoped, second_scoped, pairs_scoped, arms_scoped, methods_scoped, are_own, is_clause_scoped, is_item_scoped, is_scoped, is_for_scoped, is_lambda_scoped}
 use Rattle.dy_lowered_valid.specs.Writing.{IsBody}
-use Rattle.dy_lowered_valid.proofs.Evenness.{beside, term_layer, item_layer, term_is, item_is, for_is, block_is}
+use Rattle.dy_lowered_valid.proofs.Evenness.{beside, clause_layer, term_layer, item_layer, for_layer, clause_is, term_is, item_is, for_is, block_is}
 use Rattle.dy_lowered_valid.proofs.Fitting.{Fit, There, PairsFit, ArmsFit, HeldFit, PartFits, RestFits, fit_join, fit_truth, fit_read, fit_assigned, fit_with, fit_calling, fit_choice, fit_branching, fit_first_alone, fit_select, fit_letting, fit_body, fit_loop, fit_closing, MethodFits, fit_local_methods, named_of, function_is, less_of}
 use Rattle.dy_lowered_valid.proofs.Positions.{get_before, get_behind}
 use Rattle.dy_lowered_valid.proofs.Sameness.{both_true, eq_is}
-use Rattle.dy_lowered_valid.proofs.Scopes.{item_held, term_held, item_held_is, term_held_is, item_scope, term_scope, item_scope_is, term_scope_is, at_layer, good_lambda}
+use Rattle.dy_lowered_valid.proofs.Scopes.{clause_held, item_held, term_held, for_held, clause_held_is, item_held_is, term_held_is, for_held_is, clause_scope, item_scope, term_scope, for_scope, clause_scope_is, item_scope_is, term_scope_is, for_scope_is, at_layer, good_lambda}
+use Rattle.dy_lowered_valid.proofs.Walking.{AmountFits, LimitFits, ClauseFits, TestFits, fit_for}
 
 or_left : (a b : Bool) → a ≡ true → (a || b) ≡ true
 or_left a b e = ap (λ x. x || b) e
@@ -112,7 +115,7 @@ module _ (made : ℕ → ℕ → Type 0) (bodies : List FlatBody) (locals captur
   own_there k e = let p = both_true (nat_le first k) (nat_lt k last) e in own k (le_of first k p.0) (less_of made bodies locals captures k last p.1)
 
   abbrev C : ForClause → Type 0
-  C x = Unit {0}
+  C x = (n : ℕ) → is_clause_scoped x first last ≡ true → Says (λ k. marks_of_clause k x) → Row n (lambdas_in_clause x) → ClauseFits made bodies locals captures (clause_code layout x n)
 
   abbrev I : Item → Type 0
   I x = (n : ℕ) → is_item_scoped x first last ≡ true → Says (λ k. marks_of_item k x) → Row n (lambdas_in_item x) → PartFits made bodies locals captures (item_code layout x n)
@@ -124,7 +127,7 @@ module _ (made : ℕ → ℕ → Type 0) (bodies : List FlatBody) (locals captur
   K x = (n : ℕ) → Fits (block_code layout x n)
 
   abbrev F : ForRow → Type 0
-  F x = (n : ℕ) → Fits (for_code layout x n)
+  F x = (n : ℕ) → is_for_scoped x first last ≡ true → Says (λ k. marks_of_for k x) → Row n (lambdas_in_for x) → Fits (for_code layout x n)
 
   abbrev L : Lambda → Type 0
   L x = Unit {0}
@@ -134,6 +137,18 @@ module _ (made : ℕ → ℕ → Type 0) (bodies : List FlatBody) (locals captur
 
   abbrev marks_item : ℕ → Item-F ForClause Item Term BlockRow ForRow Lambda → Marks
   marks_item k x = item_marks k (map-Item _ _ _ _ _ _ _ _ _ _ _ _ (marks_of_clause k) (marks_of_item k) (marks_of k) (marks_of_block k) (marks_of_for k) (marks_of_lambda k) x)
+
+  abbrev marks_clause : ℕ → ForClause-F ForClause Item Term BlockRow ForRow Lambda → Marks
+  marks_clause k x = clause_marks k (map-ForClause _ _ _ _ _ _ _ _ _ _ _ _ (marks_of_clause k) (marks_of_item k) (marks_of k) (marks_of_block k) (marks_of_for k) (marks_of_lambda k) x)
+
+  abbrev marks_for : ℕ → ForRow-F ForClause Item Term BlockRow ForRow Lambda → Marks
+  marks_for k x = for_marks k (map-ForRow _ _ _ _ _ _ _ _ _ _ _ _ (marks_of_clause k) (marks_of_item k) (marks_of k) (marks_of_block k) (marks_of_for k) (marks_of_lambda k) x)
+
+  marks_clause_is : (k : ℕ) (x : ForClause-F ForClause Item Term BlockRow ForRow Lambda) → marks_of_clause k (roll-ForClause x) ≡ marks_clause k x
+  marks_clause_is k = fold-roll-ForClause _ _ _ _ _ _ _ _ _ _ _ _
+
+  marks_for_is : (k : ℕ) (x : ForRow-F ForClause Item Term BlockRow ForRow Lambda) → marks_of_for k (roll-ForRow x) ≡ marks_for k x
+  marks_for_is k = fold-roll-ForRow _ _ _ _ _ _ _ _ _ _ _ _
 
   marks_is : (k : ℕ) (x : Term-F ForClause Item Term BlockRow ForRow Lambda) → marks_of k (roll-Term x) ≡ marks k x
   marks_is k = fold-roll-Term _ _ _ _ _ _ _ _ _ _ _ _
@@ -150,6 +165,17 @@ module _ (made : ℕ → ℕ → Type 0) (bodies : List FlatBody) (locals captur
   name_item x h n e says row =
       subst (λ (make : ℕ → Part). PartFits made bodies locals captures (make n)) (sym (item_is layout x))
       (h n (at_layer (is_item_scoped (roll-Item x)) (item_scope x) first last (item_scope_is x) e) (λ k f low. says k (ap (λ (m : Marks). m.mentioned) (marks_item_is k x) ∙ f) low) (subst (Row n) (item_held_is x) row))
+
+  name_clause : (x : ForClause-F ForClause Item Term BlockRow ForRow Lambda)
+      → ((n : ℕ) → clause_scope x first last ≡ true → Says (λ k. marks_clause k x) → Row n (clause_held x) → ClauseFits made bodies locals captures (clause_layer layout x n)) → C (roll-ForClause x)
+  name_clause x h n e says row =
+      subst (λ (make : ℕ → Clause). ClauseFits made bodies locals captures (make n)) (sym (clause_is layout x))
+      (h n (at_layer (is_clause_scoped (roll-ForClause x)) (clause_scope x) first last (clause_scope_is x) e) (λ k f low. says k (ap (λ (m : Marks). m.mentioned) (marks_clause_is k x) ∙ f) low) (subst (Row n) (clause_held_is x) row))
+
+  name_for : (x : ForRow-F ForClause Item Term BlockRow ForRow Lambda) → ((n : ℕ) → for_scope x first last ≡ true → Says (λ k. marks_for k x) → Row n (for_held x) → Fits (for_layer layout x n)) → F (roll-ForRow x)
+  name_for x h n e says row =
+      subst (λ (make : ℕ → Code). Fits (make n)) (sym (for_is layout x))
+      (h n (at_layer (is_for_scoped (roll-ForRow x)) (for_scope x) first last (for_scope_is x) e) (λ k f low. says k (ap (λ (m : Marks). m.mentioned) (marks_for_is k x) ∙ f) low) (subst (Row n) (for_held_is x) row))
 
   abbrev A_term : Type 0
   A_term = Terms_with C I T K F L
@@ -437,7 +463,7 @@ module _ (made : ℕ → ℕ → Type 0) (bodies : List FlatBody) (locals captur
   term_fit (Term-F.Loop a b) = name_term _ (λ n e says row.
       let both = two_fit a b n e says row in
       fit_loop made bodies locals captures (code_of layout a.0 n) (code_of layout b.0 (n + length (lambdas_in a.0))) both.0 both.1)
-  term_fit (Term-F.For y) = name_term _ (λ n e says row. y.1 n)
+  term_fit (Term-F.For y) = name_term _ (λ n e says row. y.1 n e says row)
   term_fit (Term-F.Method y) = name_term _ (λ n e says row.
       let known = known_here n y.0 (lambdas_within y.0) row in
       fit_closing made bodies locals captures n (map (place_of layout) (captured_by y.0)) (captured_there y.0 e says) known)
@@ -457,8 +483,164 @@ module _ (made : ℕ → ℕ → Type 0) (bodies : List FlatBody) (locals captur
   block_fit : (y : BlockRow-F (Clauses_with C I T K F L) An_item A_term (Blocks_with C I T K F L) (Fors_with C I T K F L) A_lambda) → K (block_of C I T K F L y)
   block_fit y n = subst (λ (make : ℕ → Code). Fits (make n)) (sym (block_is layout _)) tt
 
-  for_fit : (y : ForRow-F (Clauses_with C I T K F L) An_item A_term (Blocks_with C I T K F L) (Fors_with C I T K F L) A_lambda) → F (for_of C I T K F L y)
-  for_fit y n = subst (λ (make : ℕ → Code). Fits (make n)) (sym (for_is layout _)) tt
+  -- `for`
+  abbrev A_clause : Type 0
+  A_clause = Clauses_with C I T K F L
+
+  abbrev A_limit : Type 0
+  A_limit = Limit × A_term
+
+  abbrev A_test : Type 0
+  A_test = Bool × A_term
+
+  abbrev coded_limit : Option A_limit → Option (Limit × Numbered Term Code)
+  coded_limit y = option_map (λ (p : Limit × Term). (p.0, beside (code_of layout) p.1)) (option_map (λ (p : A_limit). (p.0, p.1.0)) y)
+
+  abbrev coded_test : Option A_test → Option (Bool × Numbered Term Code)
+  coded_test y = option_map (λ (p : Bool × Term). (p.0, beside (code_of layout) p.1)) (option_map (λ (p : A_test). (p.0, p.1.0)) y)
+
+  abbrev coded_clauses : List A_clause → List (Numbered ForClause Clause)
+  coded_clauses ys = map (beside (clause_code layout)) (map (λ y. y.0) ys)
+
+  abbrev limit_inside : Option A_limit → List Lambda
+  limit_inside y = of_second (option_map (λ (p : Limit × Term). (p.0, beside lambdas_in p.1)) (option_map (λ (p : A_limit). (p.0, p.1.0)) y))
+
+  abbrev test_inside : Option A_test → List Lambda
+  test_inside y = of_second (option_map (λ (p : Bool × Term). (p.0, beside lambdas_in p.1)) (option_map (λ (p : A_test). (p.0, p.1.0)) y))
+
+  abbrev clauses_inside : List A_clause → List Lambda
+  clauses_inside ys = of_all (map (beside lambdas_in_clause) (map (λ y. y.0) ys))
+
+  abbrev limit_marked : Option A_limit → ℕ → Marks
+  limit_marked y k = join_limit (option_map (λ (p : Limit × Term). (p.0, marks_of k p.1)) (option_map (λ (p : A_limit). (p.0, p.1.0)) y))
+
+  abbrev test_marked : Option A_test → ℕ → Marks
+  test_marked y k = join_limit (option_map (λ (p : Bool × Term). (p.0, marks_of k p.1)) (option_map (λ (p : A_test). (p.0, p.1.0)) y))
+
+  abbrev clauses_marked : List A_clause → ℕ → Marks
+  clauses_marked ys k = join_all (map (marks_of_clause k) (map (λ y. y.0) ys))
+
+  abbrev limit_scopes : Option A_limit → Bool
+  limit_scopes y = second_scoped (option_map (λ (p : Limit × Term). (p.0, is_scoped p.1)) (option_map (λ (p : A_limit). (p.0, p.1.0)) y)) first last
+
+  abbrev test_scopes : Option A_test → Bool
+  test_scopes y = second_scoped (option_map (λ (p : Bool × Term). (p.0, is_scoped p.1)) (option_map (λ (p : A_test). (p.0, p.1.0)) y)) first last
+
+  abbrev clauses_scopes : List A_clause → Bool
+  clauses_scopes ys = all_scoped (map is_clause_scoped (map (λ y. y.0) ys)) first last
+
+  amount_fit : (known : Option ℤ) (code : Code) → Fits code → AmountFits made bodies locals captures (known_or known code)
+  amount_fit None code h = h
+  amount_fit (Some number) code h = tt
+
+  limit_fit : (y : Option A_limit) (n : ℕ) → limit_scopes y ≡ true → Says (limit_marked y) → Row n (limit_inside y) → LimitFits made bodies locals captures (limit_from (coded_limit y) n)
+  limit_fit None n e says row = tt
+  limit_fit (Some y) n e says row = amount_fit (number_of (out-Term y.1.0)) (code_of layout y.1.0 n) (y.1.1 n e says row)
+
+  limit_behind : (y : Option A_limit) (n : ℕ) → behind_second (coded_limit y) n ≡ n + length (limit_inside y)
+  limit_behind None n = omega arith
+  limit_behind (Some y) n = refl
+
+  step_fit : (y : Option A_term) (n : ℕ) → held_scopes y ≡ true → Says (held_marked y) → Row n (held_inside y) → AmountFits made bodies locals captures (step_from (coded_held y) n)
+  step_fit None n e says row = tt
+  step_fit (Some y) n e says row = amount_fit (number_of (out-Term y.0)) (code_of layout y.0 n) (y.1 n e says row)
+
+  test_fit : (y : Option A_test) (n : ℕ) → test_scopes y ≡ true → Says (test_marked y) → Row n (test_inside y) → TestFits made bodies locals captures (second_from (coded_test y) n)
+  test_fit None n e says row = tt
+  test_fit (Some y) n e says row = y.1.1 n e says row
+
+  test_behind : (y : Option A_test) (n : ℕ) → behind_second (coded_test y) n ≡ n + length (test_inside y)
+  test_behind None n = omega arith
+  test_behind (Some y) n = refl
+
+  clauses_fit : (ys : List A_clause) (n : ℕ) → clauses_scopes ys ≡ true → Says (clauses_marked ys) → Row n (clauses_inside ys) → Every (ClauseFits made bodies locals captures) (clauses_from (coded_clauses ys) n)
+  clauses_fit [] n e says row = tt
+  clauses_fit (y ∷ ys) n e says row =
+      let p = both_true (is_clause_scoped y.0 first last) (clauses_scopes ys) e in
+      let next = n + length (lambdas_in_clause y.0) in (
+        y.1 n p.0 (left (λ k. marks_of_clause k y.0) (clauses_marked ys) says) (row_front n (lambdas_in_clause y.0) (clauses_inside ys) row),
+        clauses_fit ys next p.1 (right (λ k. marks_of_clause k y.0) (clauses_marked ys) says) (row_back n next (lambdas_in_clause y.0) (clauses_inside ys) refl row),
+      )
+
+  clauses_behind : (ys : List A_clause) (n : ℕ) → behind_clauses (coded_clauses ys) n ≡ n + length (clauses_inside ys)
+  clauses_behind [] n = omega arith
+  clauses_behind (y ∷ ys) n = clauses_behind ys (n + length (lambdas_in_clause y.0)) ∙ omega (arith, length-append (lambdas_in_clause y.0) (clauses_inside ys))
+
+  counts_fit : (local : ℕ) (s : A_term) (y : Option A_limit) (t : Option A_term) (n : ℕ) → (is_own first last local && (is_scoped s.0 first last && (limit_scopes y && held_scopes t))) ≡ true
+      → Says (λ k. join (marks_of k s.0) (join (limit_marked y k) (held_marked t k))) → Row n (lambdas_in s.0 ++ limit_inside y ++ held_inside t)
+      → Here (place_of layout local) × Fits (code_of layout s.0 n) × LimitFits made bodies locals captures (limit_from (coded_limit y) (n + length (lambdas_in s.0)))
+      × AmountFits made bodies locals captures (step_from (coded_held t) (behind_second (coded_limit y) (n + length (lambdas_in s.0))))
+  counts_fit local s y t n e says row =
+      let a = lambdas_in s.0 in
+      let b = limit_inside y in
+      let c = held_inside t in
+      let p = both_true (is_own first last local) (is_scoped s.0 first last && (limit_scopes y && held_scopes t)) e in
+      let q = both_true (is_scoped s.0 first last) (limit_scopes y && held_scopes t) p.1 in
+      let r = both_true (limit_scopes y) (held_scopes t) q.1 in
+      let of_s : ℕ → Marks = λ k. marks_of k s.0 in
+      let of_rest : ℕ → Marks = λ k. join (limit_marked y k) (held_marked t k) in
+      let says_rest = right of_s of_rest says in
+      let m = n + length a in
+      let k = behind_second (coded_limit y) m in
+      let k_is = limit_behind y m in
+      let two = row_front n (a ++ b) c row in (
+        own_there local p.0,
+        s.1 n q.0 (left of_s of_rest says) (row_front n a b two),
+        limit_fit y m r.0 (left (limit_marked y) (held_marked t) says_rest) (row_back n m a b refl two),
+        step_fit t k r.1 (right (limit_marked y) (held_marked t) says_rest) (row_back n k (a ++ b) c (omega (arith, k_is, length-append a b)) row),
+      )
+
+  clause_fit : (y : ForClause-F A_clause An_item A_term (Blocks_with C I T K F L) (Fors_with C I T K F L) A_lambda) → C (clause_of C I T K F L y)
+  clause_fit (ForClause-F.Then local type s t) = name_clause _ (λ n e says row.
+      let p = both_true (is_own first last local) (is_scoped s.0 first last && is_scoped t.0 first last) e in
+      let both = two_fit s t n p.1 says row in
+      (own_there local p.0, both.0, both.1))
+  clause_fit (ForClause-F.In local type c) = name_clause _ (λ n e says row.
+      let p = both_true (is_own first last local) (is_scoped c.0 first last) e in
+      (own_there local p.0, tt, tt))
+  clause_fit (ForClause-F.From local type s None None) = name_clause _ (λ n e says row. counts_fit local s None None n e says row)
+  clause_fit (ForClause-F.From local type s None (Some t)) = name_clause _ (λ n e says row. counts_fit local s None (Some t) n e says row)
+  clause_fit (ForClause-F.From local type s (Some y) None) = name_clause _ (λ n e says row. counts_fit local s (Some y) None n e says row)
+  clause_fit (ForClause-F.From local type s (Some y) (Some t)) = name_clause _ (λ n e says row. counts_fit local s (Some y) (Some t) n e says row)
+
+  turns_fit : (ys : List A_clause) (t : Option A_test) (b : A_term) (f : Option A_term) (n : ℕ) → (clauses_scopes ys && (test_scopes t && (is_scoped b.0 first last && held_scopes f))) ≡ true
+      → Says (λ k. join (clauses_marked ys k) (join (test_marked t k) (join (marks_of k b.0) (held_marked f k)))) → Row n (clauses_inside ys ++ test_inside t ++ lambdas_in b.0 ++ held_inside f)
+      → Fits (for_loop (clauses_from (coded_clauses ys) n) (second_from (coded_test t) (behind_clauses (coded_clauses ys) n)) (code_of layout b.0 (behind_second (coded_test t) (behind_clauses (coded_clauses ys) n)))
+      (held_from (coded_held f) (behind_second (coded_test t) (behind_clauses (coded_clauses ys) n) + length (lambdas_in b.0))))
+  turns_fit ys t b f n e says row =
+      let a = clauses_inside ys in
+      let c = test_inside t in
+      let d = lambdas_in b.0 in
+      let g = held_inside f in
+      let p = both_true (clauses_scopes ys) (test_scopes t && (is_scoped b.0 first last && held_scopes f)) e in
+      let q = both_true (test_scopes t) (is_scoped b.0 first last && held_scopes f) p.1 in
+      let r = both_true (is_scoped b.0 first last) (held_scopes f) q.1 in
+      let of_b : ℕ → Marks = λ k. marks_of k b.0 in
+      let of_last : ℕ → Marks = λ k. join (marks_of k b.0) (held_marked f k) in
+      let of_rest : ℕ → Marks = λ k. join (test_marked t k) (of_last k) in
+      let says_rest = right (clauses_marked ys) of_rest says in
+      let says_last = right (test_marked t) of_last says_rest in
+      let m = behind_clauses (coded_clauses ys) n in
+      let k = behind_second (coded_test t) m in
+      let j = k + length d in
+      let m_is = clauses_behind ys n in
+      let k_is = test_behind t m in
+      let three = row_front n (a ++ c ++ d) g row in
+      let two = row_front n (a ++ c) d three in
+      fit_for made bodies locals captures (clauses_from (coded_clauses ys) n) (second_from (coded_test t) m) (code_of layout b.0 k) (held_from (coded_held f) j)
+      (clauses_fit ys n p.0 (left (clauses_marked ys) of_rest says) (row_front n a c two))
+      (test_fit t m q.0 (left (test_marked t) of_last says_rest) (row_back n m a c m_is two))
+      (b.1 k r.0 (left of_b (held_marked f) says_last) (row_back n k (a ++ c) d (omega (arith, m_is, k_is, length-append a c)) three))
+      (held_fit f j r.1 (right of_b (held_marked f) says_last) (row_back n j (a ++ c ++ d) g (omega (arith, m_is, k_is, length-append a c, length-append (a ++ c) d)) row))
+
+  abbrev a_for : List A_clause → Option A_test → A_term → Option A_term → ForRow-F A_clause An_item A_term (Blocks_with C I T K F L) (Fors_with C I T K F L) A_lambda
+  a_for cs t b f = record { clauses = cs; test = t; body = b; finally = f }
+
+  for_by : (cs : List A_clause) (t : Option A_test) (b : A_term) (f : Option A_term) → F (for_of C I T K F L (a_for cs t b f))
+  for_by cs None b None = name_for _ (λ n e says row. turns_fit cs None b None n e says row)
+  for_by cs None b (Some f) = name_for _ (λ n e says row. turns_fit cs None b (Some f) n e says row)
+  for_by cs (Some t) b None = name_for _ (λ n e says row. turns_fit cs (Some t) b None n e says row)
+  for_by cs (Some t) b (Some f) = name_for _ (λ n e says row. turns_fit cs (Some t) b (Some f) n e says row)
 
   pub names_there : (term : Term) → T term
-  names_there = by_terms C I T K F L (λ y. tt) item_fit term_fit block_fit for_fit (λ y. tt)
+  names_there = by_terms C I T K F L clause_fit item_fit term_fit block_fit (λ y. for_by y.clauses y.test y.body y.finally) (λ y. tt)

@@ -43,7 +43,7 @@ good_join (x ∷ xs) ys a b =
     (a.0, record { rest = begins.rest ++ ys; same = ap (λ (zs : List Lambda). zs ++ ys) begins.same ∙ append_assoc (lambdas_within x) begins.rest ys }, good_join xs ys a.2 b)
 
 -- the lambdas of a layer, and whether it is in scope
-abbrev clause_held : ForClause-F ForClause Item Term BlockRow ForRow Lambda → List Lambda
+abbrev pub clause_held : ForClause-F ForClause Item Term BlockRow ForRow Lambda → List Lambda
 clause_held x = clause_lambdas (map-ForClause _ _ _ _ _ _ _ _ _ _ _ _ (beside lambdas_in_clause) (beside lambdas_in_item) (beside lambdas_in) (beside lambdas_in_block) (beside lambdas_in_for) (beside lambdas_within) x)
 
 abbrev pub item_held : Item-F ForClause Item Term BlockRow ForRow Lambda → List Lambda
@@ -55,13 +55,13 @@ term_held x = term_lambdas (map-Term _ _ _ _ _ _ _ _ _ _ _ _ (beside lambdas_in_
 abbrev block_held : BlockRow-F ForClause Item Term BlockRow ForRow Lambda → List Lambda
 block_held x = block_lambdas (map-BlockRow _ _ _ _ _ _ _ _ _ _ _ _ (beside lambdas_in_clause) (beside lambdas_in_item) (beside lambdas_in) (beside lambdas_in_block) (beside lambdas_in_for) (beside lambdas_within) x)
 
-abbrev for_held : ForRow-F ForClause Item Term BlockRow ForRow Lambda → List Lambda
+abbrev pub for_held : ForRow-F ForClause Item Term BlockRow ForRow Lambda → List Lambda
 for_held x = for_lambdas (map-ForRow _ _ _ _ _ _ _ _ _ _ _ _ (beside lambdas_in_clause) (beside lambdas_in_item) (beside lambdas_in) (beside lambdas_in_block) (beside lambdas_in_for) (beside lambdas_within) x)
 
 abbrev lambda_held : Lambda-F ForClause Item Term BlockRow ForRow Lambda → List Lambda
 lambda_held x = lambda_lambdas (map-Lambda _ _ _ _ _ _ _ _ _ _ _ _ (beside lambdas_in_clause) (beside lambdas_in_item) (beside lambdas_in) (beside lambdas_in_block) (beside lambdas_in_for) (beside lambdas_within) x)
 
-clause_held_is : (x : ForClause-F ForClause Item Term BlockRow ForRow Lambda) → lambdas_in_clause (roll-ForClause x) ≡ clause_held x
+pub clause_held_is : (x : ForClause-F ForClause Item Term BlockRow ForRow Lambda) → lambdas_in_clause (roll-ForClause x) ≡ clause_held x
 clause_held_is = para-roll-ForClause _ _ _ _ _ _ _ _ _ _ _ _
 
 pub item_held_is : (x : Item-F ForClause Item Term BlockRow ForRow Lambda) → lambdas_in_item (roll-Item x) ≡ item_held x
@@ -73,13 +73,13 @@ term_held_is = para-roll-Term _ _ _ _ _ _ _ _ _ _ _ _
 block_held_is : (x : BlockRow-F ForClause Item Term BlockRow ForRow Lambda) → lambdas_in_block (roll-BlockRow x) ≡ block_held x
 block_held_is = para-roll-BlockRow _ _ _ _ _ _ _ _ _ _ _ _
 
-for_held_is : (x : ForRow-F ForClause Item Term BlockRow ForRow Lambda) → lambdas_in_for (roll-ForRow x) ≡ for_held x
+pub for_held_is : (x : ForRow-F ForClause Item Term BlockRow ForRow Lambda) → lambdas_in_for (roll-ForRow x) ≡ for_held x
 for_held_is = para-roll-ForRow _ _ _ _ _ _ _ _ _ _ _ _
 
 pub lambda_held_is : (x : Lambda-F ForClause Item Term BlockRow ForRow Lambda) → lambdas_within (roll-Lambda x) ≡ lambda_held x
 lambda_held_is = para-roll-Lambda _ _ _ _ _ _ _ _ _ _ _ _
 
-abbrev clause_scope : ForClause-F ForClause Item Term BlockRow ForRow Lambda → Scoping
+abbrev pub clause_scope : ForClause-F ForClause Item Term BlockRow ForRow Lambda → Scoping
 clause_scope x = clause_scoped (map-ForClause _ _ _ _ _ _ _ _ _ _ _ _ is_clause_scoped is_item_scoped is_scoped is_block_scoped is_for_scoped is_lambda_scoped x)
 
 abbrev pub item_scope : Item-F ForClause Item Term BlockRow ForRow Lambda → Scoping
@@ -91,13 +91,13 @@ term_scope x = term_scoped (map-Term _ _ _ _ _ _ _ _ _ _ _ _ is_clause_scoped is
 abbrev block_scope : BlockRow-F ForClause Item Term BlockRow ForRow Lambda → Scoping
 block_scope x = block_scoped (map-BlockRow _ _ _ _ _ _ _ _ _ _ _ _ is_clause_scoped is_item_scoped is_scoped is_block_scoped is_for_scoped is_lambda_scoped x)
 
-abbrev for_scope : ForRow-F ForClause Item Term BlockRow ForRow Lambda → Scoping
+abbrev pub for_scope : ForRow-F ForClause Item Term BlockRow ForRow Lambda → Scoping
 for_scope x = for_scoped (map-ForRow _ _ _ _ _ _ _ _ _ _ _ _ is_clause_scoped is_item_scoped is_scoped is_block_scoped is_for_scoped is_lambda_scoped x)
 
 abbrev pub lambda_scope : Lambda-F ForClause Item Term BlockRow ForRow Lambda → Scoping
 lambda_scope x = lambda_scoped (map-Lambda _ _ _ _ _ _ _ _ _ _ _ _ is_clause_scoped is_item_scoped is_scoped is_block_scoped is_for_scoped is_lambda_scoped x)
 
-clause_scope_is : (x : ForClause-F ForClause Item Term BlockRow ForRow Lambda) → is_clause_scoped (roll-ForClause x) ≡ clause_scope x
+pub clause_scope_is : (x : ForClause-F ForClause Item Term BlockRow ForRow Lambda) → is_clause_scoped (roll-ForClause x) ≡ clause_scope x
 clause_scope_is = fold-roll-ForClause _ _ _ _ _ _ _ _ _ _ _ _
 
 pub item_scope_is : (x : Item-F ForClause Item Term BlockRow ForRow Lambda) → is_item_scoped (roll-Item x) ≡ item_scope x
@@ -109,7 +109,7 @@ term_scope_is = fold-roll-Term _ _ _ _ _ _ _ _ _ _ _ _
 block_scope_is : (x : BlockRow-F ForClause Item Term BlockRow ForRow Lambda) → is_block_scoped (roll-BlockRow x) ≡ block_scope x
 block_scope_is = fold-roll-BlockRow _ _ _ _ _ _ _ _ _ _ _ _
 
-for_scope_is : (x : ForRow-F ForClause Item Term BlockRow ForRow Lambda) → is_for_scoped (roll-ForRow x) ≡ for_scope x
+pub for_scope_is : (x : ForRow-F ForClause Item Term BlockRow ForRow Lambda) → is_for_scoped (roll-ForRow x) ≡ for_scope x
 for_scope_is = fold-roll-ForRow _ _ _ _ _ _ _ _ _ _ _ _
 
 pub lambda_scope_is : (x : Lambda-F ForClause Item Term BlockRow ForRow Lambda) → is_lambda_scoped (roll-Lambda x) ≡ lambda_scope x

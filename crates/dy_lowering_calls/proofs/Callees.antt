@@ -38,7 +38,7 @@ use Rattle.dy_steps.specs.Arguments.{pairs, unknown, keyword_error, unless_wrong
 use Rattle.dy_steps.specs.Calling.{enter_body, enter_if_there, operate, function_called, variable_called, call_function, code_entered, row_entered, enter_method, following, params_of, names_of, some_take_all, unknown_keyword, dispatched, call_error, tested, with_search, with_sorted, search, call_object, call_value}
 use Rattle.dy_steps.specs.Steps.{steps}
 use Rattle.dy_lowering_law.specs.Force.{RowsFit}
-use Rattle.dy_lowering_law.specs.Following.{Spot, scope_of, standing, after, IsKnown, IsRight, IsRightAfter}
+use Rattle.dy_lowering_law.specs.Following.{Spot, scope_of, standing, after, IsKnown, AreWords, IsRight, IsRightAfter}
 use Rattle.dy_lowering_law.specs.Kinds.{GoesOn}
 use Rattle.dy_lowering_law.specs.Machines as machines
 use Rattle.dy_lowering_law.specs.Machines.{linked_program, machine_of, failing_from, sorted, all_methods_from}
@@ -103,7 +103,7 @@ module _ (program : Program) (n : ℕ) (stand : CallsStand program n) where
     pub runs : (x : Spot) (place : ℕ) (register : List Variant) (k : ℕ) → RowsFit x.running → s.fuel.left ≤ n
         → GoesOn (machine_of program) (call (standing (body_of program) x place register s k)) (after (body_of program) x place (answered (world program) (entered (world program) n) callee values (scope_of x) s))
 
-  module _ (locals : ℕ) (s : State) (right : IsRight program locals s) (values : List Variant) where
+  module _ (locals : ℕ) (s : State) (right : IsRight program locals s) (values : List Variant) (words : AreWords values) where
     fails_answer : (error : ErrorRow) → Answers locals s values (callees.Fails error) (signal (machine_of program) error)
     fails_answer error = record {
       keeps = λ scope. signal_keeps program error locals scope s;
@@ -114,9 +114,9 @@ module _ (program : Program) (n : ℕ) (stand : CallsStand program n) where
     operates_answer operation =
         let takes = stand.operations 0 locals operation (length values) in
         record {
-          keeps = λ scope. takes.keeps values scope s right;
+          keeps = λ scope. takes.keeps values words scope s right;
           runs = λ x place register k fit few.
-              let goes = takes.runs values x place register s k refl fit right few in
+              let goes = takes.runs values x place register s k refl words fit right few in
               record {
                 count = goes.count;
                 searches = goes.searches;
@@ -124,13 +124,13 @@ module _ (program : Program) (n : ℕ) (stand : CallsStand program n) where
               };
         }
 
-    enters_answer : (lambda : Lambda) (number : ℕ) (captured : List Variant) (f : Option Following) → lambda_of program number ≡ Some lambda
+    enters_answer : (lambda : Lambda) (number : ℕ) (captured : List Variant) → AreWords captured → (f : Option Following) → lambda_of program number ≡ Some lambda
         → Answers locals s values (callees.Enters (fun_of program lambda number) captured) (enter_body (machine_of program) (body_of program number) captured values f)
-    enters_answer lambda number captured f e =
+    enters_answer lambda number captured kept f e =
         let enters = stand.lambdas number lambda e in
         record {
-          keeps = λ scope. enters.keeps captured values scope locals s right;
-          runs = λ x place register k fit few. enters.runs captured values f x place register s k locals right few;
+          keeps = λ scope. enters.keeps captured values kept words scope locals s right;
+          runs = λ x place register k fit few. enters.runs captured values kept words f x place register s k locals right few;
         }
 
     -- another way to write the call
@@ -160,7 +160,7 @@ module _ (program : Program) (n : ℕ) (stand : CallsStand program n) where
             let has = functions_have program named found.0 found.1 lambda e h in
             answer_by _ (enter_body (machine_of program) (body_of program found.1) [] values None) _
             (λ x place register k. ap (λ o. enter_if_there (machine_of program) o values None (standing (body_of program) x place register s k)) has.found)
-            (enters_answer lambda found.1 [] None has.numbered)
+            (enters_answer lambda found.1 [] tt None has.numbered)
         of_lambda found e None h (Some operation) = operates_answer operation
         of_lambda found e None h None = fails_answer not_a_function
 
@@ -186,7 +186,7 @@ module _ (program : Program) (n : ℕ) (stand : CallsStand program n) where
             let has = is.body lambda e in
             answer_by _ (enter_body (machine_of program) (body_of program numbered.1) [] values (Some f)) _
             (λ x place register k. ap (λ o. enter_if_there (machine_of program) o values (Some f) (standing (body_of program) x place register s k)) has.found)
-            (enters_answer lambda numbered.1 [] (Some f) has.numbered)
+            (enters_answer lambda numbered.1 [] tt (Some f) has.numbered)
         of_code (ByOperation operation) e = operates_answer operation
         of_code (Getter class slot) e = answer_by _ (signal (machine_of program) not_a_function) _ (λ x place register k. no_accessor s.fuel.left not_a_function (standing (body_of program) x place register s k)) (fails_answer not_a_function)
         of_code (Setter class slot) e = answer_by _ (signal (machine_of program) not_a_function) _ (λ x place register k. no_accessor s.fuel.left not_a_function (standing (body_of program) x place register s k)) (fails_answer not_a_function)
@@ -272,14 +272,16 @@ module _ (program : Program) (n : ℕ) (stand : CallsStand program n) where
         (λ x p register k. ap (λ o. call_object (machine_of program) o values (standing (body_of program) x p register s k)) (slice_get-map (renumbered_row (body_of program)) s.store.objects place))
         (of_row (slice_get s.store.objects place) refl)
       where
-        of_closure : (number : ℕ) (captured : List Variant) → number < length (lambdas_of program) → (held : Option Lambda) → lambda_of program number ≡ held
+        of_closure : (number : ℕ) (captured : List Variant) → AreWords captured → number < length (lambdas_of program) → (held : Option Lambda) → lambda_of program number ≡ held
             → Answers locals s values (closure_callee program number held captured) (enter_body (machine_of program) (body_of program number) captured values None)
-        of_closure number captured less None e = absurd (no_none (lambdas_of program) number less e)
-        of_closure number captured less (Some lambda) e = enters_answer lambda number captured None e
+        of_closure number captured kept less None e = absurd (no_none (lambdas_of program) number less e)
+        of_closure number captured kept less (Some lambda) e = enters_answer lambda number captured kept None e
 
         of_row : (held : Option ObjectRow) → slice_get s.store.objects place ≡ held → Answers locals s values (object_callee program held) (λ c. call_object (machine_of program) (option_map (renumbered_row (body_of program)) held) values c)
         of_row None e = fails_answer not_a_function
-        of_row (Some (object.Closure number captured)) e = of_closure number captured (known_at program s.store.objects place (object.Closure number captured) right.objects e) (lambda_of program number) refl
+        of_row (Some (object.Closure number captured)) e =
+            let known = known_at program s.store.objects place (object.Closure number captured) right.objects e in
+            of_closure number captured known.1 known.0 (lambda_of program number) refl
         of_row (Some (object.Exit block)) e = absurd (known_at program s.store.objects place (object.Exit block) right.objects e)
         of_row (Some (object.NextMethod generic methods ambiguous arguments)) e = absurd (known_at program s.store.objects place (object.NextMethod generic methods ambiguous arguments) right.objects e)
         of_row (Some (object.NextHandler block value)) e = absurd (known_at program s.store.objects place (object.NextHandler block value) right.objects e)

@@ -1,11 +1,12 @@
 -- A body is entered and returns.
 use Rattle.std.proofs.Common.{◌≡◌, ℕ, zero, suc, ◌+◌, ◌-◌, ◌<◌, ◌≤◌, Bool, true, false, List, [], ◌∷◌, ◌++◌, drop, length, Option, Some, None, refl, sym, ap, ◌∙◌, subst, arith, is_some}
-use Rattle.std.specs.Prelude.{nat_le}
+use Rattle.std.specs.Prelude.{nat_le, replicate}
 use Rattle.std.proofs.lemmas.List.{length-replicate, length-set}
 use Rattle.dy_term.specs.declared.term.Lambda.{Lambda, out-Lambda}
 use Rattle.dy_term.specs.declared.types.DyType.{DyType}
 use Rattle.dy_term.specs.declared.rows.Program.{Program}
 use Rattle.dy_values.specs.declared.value.Variant.{Variant}
+use Rattle.dy_values.specs.declared.value.Variant.TheVariants.{Bool as Truth}
 use Rattle.dy_values.specs.declared.object.ObjectRow.TheVariants as object
 use Rattle.dy_values.specs.declared.error.ErrorRow.{ErrorRow}
 use Rattle.dy_values.specs.Errors.{wrong_number}
@@ -37,13 +38,13 @@ use Rattle.dy_lowered.specs.Flat.{Code, Plain, one}
 use Rattle.dy_lowered.specs.Parts.{cells}
 use Rattle.dy_lowered.specs.Bodies.{parameters, lambda_body}
 use Rattle.dy_lowered.specs.Terms.{code_of}
-use Rattle.dy_lowering_law.specs.Following.{Spot, scope_of, standing, after, Comes, Holds, IsRight, IsRightAfter}
+use Rattle.dy_lowering_law.specs.Following.{Spot, scope_of, standing, after, Comes, Holds, IsWord, AreWords, IsRight, IsRightAfter}
 use Rattle.dy_lowering_law.specs.Machines.{linked_program, machine_of}
 use Rattle.dy_lowering_law.specs.Renumbering.{body_of, renumbered}
 use Rattle.dy_lowering_law.proofs.Leading.{comes_by, comes_behind, stepped, holds_front, holds_back}
 use Rattle.dy_lowering_law.proofs.Arguments.{goes_behind}
-use Rattle.dy_lowering_law.proofs.Values.{known_added}
-use Rattle.dy_lowering_law.proofs.Cases.{then_keeps}
+use Rattle.dy_lowering_law.proofs.Values.{known_added, local_words, cell_words, captured_words}
+use Rattle.dy_lowering_law.proofs.Cases.{then_keeps, then_keeps_words, first_word, less_words}
 use Rattle.dy_lowering_calls.specs.Entering.{Enters, Stands, IsPlain, TermFollows}
 use Rattle.dy_lowering_calls.proofs.Binding.{none_wrong, unless_taken, error_is, length_places, binds}
 use Rattle.dy_lowering_calls.proofs.Returning.{inner, out_comes, out_any}
@@ -51,31 +52,41 @@ use Rattle.dy_lowering_calls.proofs.Signals.{signal_inside, signal_keeps}
 
 -- states stay right
 module _ (program : Program) where
-  bind_right : (locals : ℕ) (place : Place) (value : Variant) (s : State) → IsRight program locals s → IsRight program locals (bind place value s)
-  bind_right locals (Own k false) value s right = record { objects = right.objects; frame = length-set s.frame.locals k value ∙ right.frame }
-  bind_right locals (Own k true) value s right = record { objects = known_added program s.store.objects (object.Cell value) right.objects tt; frame = length-set s.frame.locals k (next_object s.store) ∙ right.frame }
-  bind_right locals (Captured k) value s right = record { objects = right.objects; frame = right.frame }
+  bind_right : (locals : ℕ) (place : Place) (value : Variant) → IsWord value → (s : State) → IsRight program locals s → IsRight program locals (bind place value s)
+  bind_right locals (Own k false) value word s right = record { objects = right.objects; frame = length-set s.frame.locals k value ∙ right.frame; words = local_words s k value word right.words }
+  bind_right locals (Own k true) value word s right = record { objects = known_added program s.store.objects (object.Cell value) right.objects word; frame = length-set s.frame.locals k (next_object s.store) ∙ right.frame; words = cell_words s k value right.words }
+  bind_right locals (Captured k) value word s right = record { objects = right.objects; frame = right.frame; words = captured_words s k value word right.words }
 
-  all_right : (locals : ℕ) (places : List Place) (values : List Variant) (s : State) → IsRight program locals s → IsRight program locals (all_bound places values s)
-  all_right locals [] values s right = right
-  all_right locals (place ∷ places) values s right = all_right locals places _ _ (bind_right locals place (first values) s right)
+  all_right : (locals : ℕ) (places : List Place) (values : List Variant) → AreWords values → (s : State) → IsRight program locals s → IsRight program locals (all_bound places values s)
+  all_right locals [] values words s right = right
+  all_right locals (place ∷ places) values words s right = all_right locals places (drop 1 values) (less_words values words) (bind place (first values) s) (bind_right locals place (first values) (first_word values words) s right)
 
   vector_right : (locals : ℕ) (cost : Bool) (units : ℕ) (items : List Variant) (s : State) → IsRight program locals s → IsRightAfter program locals (spend_if cost units s (made (object.Vector false items)))
-  vector_right locals true units items s right = record { objects = known_added program s.store.objects (object.Vector false items) right.objects tt; frame = right.frame }
+  vector_right locals true units items s right = (record { objects = known_added program s.store.objects (object.Vector false items) right.objects tt; frame = right.frame; words = record { locals = right.words.locals; captured = right.words.captured; globals = right.words.globals } }, (tt, tt))
   vector_right locals false units items s right = tt
 
-  bound_right : (locals : ℕ) (places : List Place) (rest : Option Place) (values : List Variant) (s : State) → IsRight program locals s → IsRightAfter program locals (bound places rest values s)
-  bound_right locals places None values s right = all_right locals places values s right
-  bound_right locals places (Some rest) values s right =
-      then_keeps program locals (gathered (drop (length places) values) s) (λ vs t. Gave [] (bind rest (first vs) (all_bound places values t)))
-      (vector_right locals (nat_le (length (drop (length places) values) + 1) s.fuel.left) (length (drop (length places) values) + 1) (drop (length places) values) s right) (λ vs t right1. bind_right locals rest (first vs) _ (all_right locals places values t right1))
+  bound_right : (locals : ℕ) (places : List Place) (rest : Option Place) (values : List Variant) → AreWords values → (s : State) → IsRight program locals s → IsRightAfter program locals (bound places rest values s)
+  bound_right locals places None values words s right = (all_right locals places values words s right, tt)
+  bound_right locals places (Some rest) values words s right =
+      then_keeps_words program locals (gathered (drop (length places) values) s) (λ vs t. Gave [] (bind rest (first vs) (all_bound places values t)))
+      (vector_right locals (nat_le (length (drop (length places) values) + 1) s.fuel.left) (length (drop (length places) values) + 1) (drop (length places) values) s right) (λ vs t right1 made1. (bind_right locals rest (first vs) (first_word vs made1) (all_bound places values t) (all_right locals places values words t right1), tt))
 
   -- back in the frame of a caller
-  back_right : (inside locals : ℕ) (o : Outcome) (frame : Frame) → IsRightAfter program inside o → length frame.locals ≡ locals → IsRightAfter program locals (back_to frame o)
-  back_right inside locals (Gave values s) frame right e = record { objects = right.objects; frame = e }
-  back_right inside locals (Exits block values s) frame right e = record { objects = right.objects; frame = e }
-  back_right inside locals (Ended line s) frame right e = tt
-  back_right inside locals (Spent s) frame right e = tt
+  back_right : (inside locals : ℕ) (o : Outcome) (frame : Frame) → IsRightAfter program inside o → length frame.locals ≡ locals → AreWords frame.locals → AreWords frame.captured → IsRightAfter program locals (back_to frame o)
+  back_right inside locals (Gave values s) frame right e one other = (record { objects = right.0.objects; frame = e; words = record { locals = one; captured = other; globals = right.0.words.globals } }, right.1)
+  back_right inside locals (Exits block values s) frame right e one other = (record { objects = right.0.objects; frame = e; words = record { locals = one; captured = other; globals = right.0.words.globals } }, right.1)
+  back_right inside locals (Ended line s) frame right e one other = tt
+  back_right inside locals (Spent s) frame right e one other = tt
+
+-- values that are cut or filled
+returned_words : (count : ℕ) (more : Bool) (values : List Variant) → AreWords values → AreWords (returned count more values)
+returned_words zero true values words = words
+returned_words zero false values words = tt
+returned_words (suc count) more values words = (first_word values words, returned_words count more (drop 1 values) (less_words values words))
+
+no_words : (count : ℕ) → AreWords (replicate count (Truth false))
+no_words zero = tt
+no_words (suc count) = (tt, no_words count)
 
 more_same : (rest : Option DyType) → is_some rest ≡ has_more rest
 more_same None = refl
@@ -101,20 +112,20 @@ module _ (program : Program) (before body closure number : ℕ) (lambda : Lambda
   start = 2 + length (cells (parameters lambda))
 
   -- within, where at most m units are left
-  module _ (m : ℕ) (follows : TermFollows program m before closure number lambda) (captured values : List Variant) where
+  module _ (m : ℕ) (follows : TermFollows program m before closure number lambda) (captured values : List Variant) (kept : AreWords captured) (words : AreWords values) where
     frame_right : (outer : ℕ) (t : State) → IsRight program outer t → IsRight program locals (new_frame locals captured t)
-    frame_right outer t right = record { objects = right.objects; frame = length-replicate locals _ }
+    frame_right outer t right = record { objects = right.objects; frame = length-replicate locals _; words = record { locals = no_words locals; captured = kept; globals = right.words.globals } }
 
     run_right : (scope : Scope) (outer : ℕ) (t : State) → IsRight program outer t → IsRightAfter program locals (running fun captured values (calls_within (world program) m) scope t)
     run_right scope outer t right =
         then_keeps program locals (bound fun.parameters fun.rest values (new_frame locals captured t)) _
-        (bound_right program locals fun.parameters fun.rest values (new_frame locals captured t) (frame_right outer t right))
-        (λ vs u right1. then_keeps program locals (meaning_within program m (layout_of lambda) (out-Lambda lambda).body (number + 1 + length (of_defaults (out-Lambda lambda).keywords)) scope u) _ (follows.keeps scope u right1) (λ ws v right2. right2))
+        (bound_right program locals fun.parameters fun.rest values words (new_frame locals captured t) (frame_right outer t right))
+        (λ vs u right1. then_keeps_words program locals (meaning_within program m (layout_of lambda) (out-Lambda lambda).body (number + 1 + length (of_defaults (out-Lambda lambda).keywords)) scope u) _ (follows.keeps scope u right1) (λ ws v right2 words2. (right2, returned_words fun.results fun.more ws words2)))
 
     inside_right : (taken : Bool) (scope : Scope) (outer : ℕ) (t : State) → IsRight program outer t
         → IsRightAfter program outer (back_to t.frame (chosen taken (running fun captured values (calls_within (world program) m) scope) (signalled (world program) wrong_number scope) t))
-    inside_right true scope outer t right = back_right program locals outer _ t.frame (run_right scope outer t right) right.frame
-    inside_right false scope outer t right = back_right program outer outer _ t.frame (signal_keeps program wrong_number outer scope t) right.frame
+    inside_right true scope outer t right = back_right program locals outer _ t.frame (run_right scope outer t right) right.frame right.words.locals right.words.captured
+    inside_right false scope outer t right = back_right program outer outer _ t.frame (signal_keeps program wrong_number outer scope t) right.frame right.words.locals right.words.captured
 
     module _ (following : Option Following) (x : Spot) (place : ℕ) (frame : Frame) where
       abbrev y : Spot
@@ -176,11 +187,11 @@ module _ (program : Program) (before body closure number : ℕ) (lambda : Lambda
           let h2 = holds_back (linked_program program) before body 2 (cells (parameters lambda)) (term_code ++ rest_code) stands.code.1.1 in
           let first_part = goes_behind program c1 _ _ (args_step s1 j true taken) (binds program before (layout_of lambda) params plain.keys y params.rest values s1 j counted (omega (arith, long, room)) h1) in
           let falls = (bound_near m fun.parameters fun.rest values s1).falls in
-          let rights = bound_right program locals fun.parameters fun.rest values s1 (frame_right outer t right) in
+          let rights = bound_right program locals fun.parameters fun.rest values words s1 (frame_right outer t right) in
           out_any program body values following x place frame c1 start (bound fun.parameters fun.rest values s1) [] _ first_part
           (λ vs u i gave.
           let less : u.fuel.left ≤ t.fuel.left = subst (λ o. units_of o ≤ t.fuel.left) gave falls in
-          term_comes u i h2 (subst (λ o. IsRightAfter program locals o) gave rights) (omega (arith, less, few)))
+          term_comes u i h2 (subst (λ o. IsRightAfter program locals o) gave rights).0 (omega (arith, less, few)))
 
       chosen_comes : (taken : Bool) (t : State) (j : ℕ) → t.fuel.left ≤ m → (outer : ℕ) → IsRight program outer t → is_taken fun.rest (length fun.parameters) (length values) ≡ taken
           → Comes (machine_of program) (standing (body_of program) y 1 [] (new_frame locals captured t) j)
@@ -194,25 +205,25 @@ module _ (program : Program) (before body closure number : ℕ) (lambda : Lambda
   units_left units s = record s { fuel = record { left = units } }
 
   -- a unit is spent first
-  tick_comes : (n units : ℕ) → ((m : ℕ) → m < n → TermFollows program m before closure number lambda) → units ≤ n → (captured values : List Variant) (following : Option Following) (x : Spot) (place : ℕ) (s : State) (outer j : ℕ) → IsRight program outer s
+  tick_comes : (n units : ℕ) → ((m : ℕ) → m < n → TermFollows program m before closure number lambda) → units ≤ n → (captured values : List Variant) → AreWords captured → AreWords values → (following : Option Following) (x : Spot) (place : ℕ) (s : State) (outer j : ℕ) → IsRight program outer s
       → Comes (machine_of program) (standing (body_of program) (inner body values following x place s.frame) 0 [] (new_frame locals captured (units_left units s)) j)
       (after (body_of program) x place (entered (world program) n fun captured values (scope_of x) (units_left units s)))
-  tick_comes zero zero terms few captured values following x place s outer j right =
+  tick_comes zero zero terms few captured values kept words following x place s outer j right =
       comes_by (machine_of program) _ _ j (stepped (machine_of program) (body_of program) (inner body values following x place s.frame) 0 before [] (new_frame locals captured (units_left 0 s)) j (Plain instr.Tick) behind_tick stands.code)
-  tick_comes (suc m) zero terms few captured values following x place s outer j right =
+  tick_comes (suc m) zero terms few captured values kept words following x place s outer j right =
       comes_by (machine_of program) _ _ j (stepped (machine_of program) (body_of program) (inner body values following x place s.frame) 0 before [] (new_frame locals captured (units_left 0 s)) j (Plain instr.Tick) behind_tick stands.code)
-  tick_comes zero (suc units) terms few captured values following x place s outer j right = absurd (omega (arith, few))
-  tick_comes (suc m) (suc units) terms few captured values following x place s outer j right =
+  tick_comes zero (suc units) terms few captured values kept words following x place s outer j right = absurd (omega (arith, few))
+  tick_comes (suc m) (suc units) terms few captured values kept words following x place s outer j right =
       comes_behind (machine_of program) _ (standing (body_of program) (inner body values following x place s.frame) 1 [] (new_frame locals captured (units_left units s)) j) _
       (stepped (machine_of program) (body_of program) (inner body values following x place s.frame) 0 before [] (new_frame locals captured (units_left (suc units) s)) j (Plain instr.Tick) behind_tick stands.code)
-      (chosen_comes m (terms m (omega arith)) captured values following x place s.frame (is_taken fun.rest (length fun.parameters) (length values)) (units_left units s) j (omega (arith, few)) outer (record { objects = right.objects; frame = right.frame }) refl)
+      (chosen_comes m (terms m (omega arith)) captured values kept words following x place s.frame (is_taken fun.rest (length fun.parameters) (length values)) (units_left units s) j (omega (arith, few)) outer (record { objects = right.objects; frame = right.frame; words = record { locals = right.words.locals; captured = right.words.captured; globals = right.words.globals } }) refl)
 
-  entered_keeps : (n units : ℕ) → ((m : ℕ) → m < n → TermFollows program m before closure number lambda) → (captured values : List Variant) (scope : Scope) (outer : ℕ) (s : State) → IsRight program outer s
+  entered_keeps : (n units : ℕ) → ((m : ℕ) → m < n → TermFollows program m before closure number lambda) → (captured values : List Variant) → AreWords captured → AreWords values → (scope : Scope) (outer : ℕ) (s : State) → IsRight program outer s
       → IsRightAfter program outer (entered (world program) n fun captured values scope (units_left units s))
-  entered_keeps zero units terms captured values scope outer s right = tt
-  entered_keeps (suc m) zero terms captured values scope outer s right = tt
-  entered_keeps (suc m) (suc units) terms captured values scope outer s right =
-      inside_right m (terms m (omega arith)) captured values (is_taken fun.rest (length fun.parameters) (length values)) scope outer (units_left units s) (record { objects = right.objects; frame = right.frame })
+  entered_keeps zero units terms captured values kept words scope outer s right = tt
+  entered_keeps (suc m) zero terms captured values kept words scope outer s right = tt
+  entered_keeps (suc m) (suc units) terms captured values kept words scope outer s right =
+      inside_right m (terms m (omega arith)) captured values kept words (is_taken fun.rest (length fun.parameters) (length values)) scope outer (units_left units s) (record { objects = right.objects; frame = right.frame; words = record { locals = right.words.locals; captured = right.words.captured; globals = right.words.globals } })
 
   -- the machine enters the body
   begins : (captured values : List Variant) (following : Option Following) (x : Spot) (place : ℕ) (register : List Variant) (s : State) (k : ℕ)
@@ -225,9 +236,9 @@ module _ (program : Program) (before body closure number : ℕ) (lambda : Lambda
 
   pub enters : (n : ℕ) → ((m : ℕ) → m < n → TermFollows program m before closure number lambda) → Enters program n body fun
   enters n terms = record {
-    keeps = λ captured values scope outer s right. entered_keeps n s.fuel.left terms captured values scope outer s right;
-    runs = λ captured values following x place register s k outer right few.
-        let comes = tick_comes n s.fuel.left terms few captured values following x place s outer k right in
+    keeps = λ captured values kept words scope outer s right. entered_keeps n s.fuel.left terms captured values kept words scope outer s right;
+    runs = λ captured values kept words following x place register s k outer right few.
+        let comes = tick_comes n s.fuel.left terms few captured values kept words following x place s outer k right in
         record { count = comes.count; searches = comes.searches; there = ap (steps (machine_of program) comes.count) (begins captured values following x place register s k) ∙ comes.there };
   }
 

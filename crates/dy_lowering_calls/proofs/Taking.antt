@@ -25,6 +25,7 @@ use Rattle.dy_lowering_law.specs.Kinds.{AllDo, Takes}
 use Rattle.dy_lowering_law.specs.Machines.{machine_of}
 use Rattle.dy_lowering_law.specs.Renumbering.{body_of}
 use Rattle.dy_lowering_law.proofs.Arguments.{then_assoc, taken_all, arguments_follow}
+use Rattle.dy_lowering_law.proofs.Cases.{less_words}
 use Rattle.dy_lowering_calls.specs.Calls.{CallsStand}
 use Rattle.dy_lowering_calls.proofs.Callees.{value_answers, generic_answers}
 
@@ -39,9 +40,9 @@ module _ (program : Program) (n before locals : ℕ) where
   pub known_taken : (count : ℕ) (named : BindingId) → CallsStand program n → Takes program n before locals count (instr.CallKnown named count) (calls.value (Function named))
   known_taken count named stand = record {
     falls = λ values scope s. (low.value (Function named) values scope s).falls;
-    keeps = λ values scope s right. (value_answers program n stand locals s right values (Function named)).keeps scope;
-    runs = λ values x place register s k long fit right few.
-        let goes = (value_answers program n stand locals s right values (Function named)).runs x place register k fit few in
+    keeps = λ values words scope s right. (value_answers program n stand locals s right values words (Function named)).keeps scope;
+    runs = λ values x place register s k long words fit right few.
+        let goes = (value_answers program n stand locals s right values words (Function named)).runs x place register k fit few in
         record {
           count = goes.count;
           searches = goes.searches;
@@ -52,9 +53,9 @@ module _ (program : Program) (n before locals : ℕ) where
   pub value_taken : (count : ℕ) → CallsStand program n → Takes program n before locals (suc count) (instr.CallValue count) (λ values. calls.value (first values) (drop 1 values))
   value_taken count stand = record {
     falls = λ values scope s. (low.value (first values) (drop 1 values) scope s).falls;
-    keeps = λ values scope s right. (value_answers program n stand locals s right (drop 1 values) (first values)).keeps scope;
-    runs = λ values x place register s k long fit right few.
-        let goes = (value_answers program n stand locals s right (drop 1 values) (first values)).runs x place register k fit few in
+    keeps = λ values words scope s right. (value_answers program n stand locals s right (drop 1 values) (less_words values words) (first values)).keeps scope;
+    runs = λ values x place register s k long words fit right few.
+        let goes = (value_answers program n stand locals s right (drop 1 values) (less_words values words) (first values)).runs x place register k fit few in
         record {
           count = goes.count;
           searches = goes.searches;
@@ -65,9 +66,9 @@ module _ (program : Program) (n before locals : ℕ) where
   pub search_taken : (count : ℕ) (generic : GenericId) → CallsStand program n → Takes program n before locals count (instr.Search generic count) (calls.generic generic)
   search_taken count generic stand = record {
     falls = λ values scope s. (low.generic generic values scope s).falls;
-    keeps = λ values scope s right. (generic_answers program n stand locals s right values generic).keeps scope;
-    runs = λ values x place register s k long fit right few.
-        let goes = (generic_answers program n stand locals s right values generic).runs x place register k fit few in
+    keeps = λ values words scope s right. (generic_answers program n stand locals s right values words generic).keeps scope;
+    runs = λ values x place register s k long words fit right few.
+        let goes = (generic_answers program n stand locals s right values words generic).runs x place register k fit few in
         record {
           count = goes.count;
           searches = goes.searches;

@@ -17,8 +17,8 @@ use Rattle.dy_steps.specs.Configurations.{Following}
 use Rattle.dy_steps.specs.Calling.{enter_body}
 use Rattle.dy_lowered.specs.Bodies.{FlatBody, lambda_body}
 use Rattle.dy_lowered.specs.Terms.{code_of}
-use Rattle.dy_lowering_law.specs.Following.{Spot, scope_of, standing, after, Holds, IsRight}
-use Rattle.dy_lowering_law.specs.Following.{IsRightAfter, Follows}
+use Rattle.dy_lowering_law.specs.Following.{Spot, scope_of, standing, after, Holds, AreWords}
+use Rattle.dy_lowering_law.specs.Following.{IsRight, IsRightAfter, Follows}
 use Rattle.dy_lowering_law.specs.Kinds.{GoesOn}
 use Rattle.dy_lowering_law.specs.Machines.{linked_program, machine_of}
 use Rattle.dy_lowering_law.specs.Renumbering.{body_of}
@@ -27,11 +27,12 @@ use Rattle.dy_lowering_law.specs.Renumbering.{body_of}
 -- a call of a body with parameters comes: back, with the values in the register and the frame as it
 -- was; with an exit, to where the rows of the caller lead; with an end, to that end.
 pub record Enters (program : Program) (n body : ℕ) (fun : Fun) : Type 0 where
-  pub keeps : (captured values : List Variant) (scope : Scope) (locals : ℕ) (state : State)
-      → IsRight program locals state
+  pub keeps : (captured values : List Variant) → AreWords captured → AreWords values
+      → (scope : Scope) (locals : ℕ) (state : State) → IsRight program locals state
       → IsRightAfter program locals (entered (world program) n fun captured values scope state)
-  pub runs : (captured values : List Variant) (following : Option Following) (x : Spot)
-      (place : ℕ) (register : List Variant) (state : State) (searches locals : ℕ)
+  pub runs : (captured values : List Variant) → AreWords captured → AreWords values
+      → (following : Option Following) (x : Spot) (place : ℕ) (register : List Variant)
+      (state : State) (searches locals : ℕ)
       → IsRight program locals state → state.fuel.left ≤ n
       → GoesOn (machine_of program)
       (enter_body (machine_of program) body captured values following

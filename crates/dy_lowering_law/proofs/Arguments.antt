@@ -22,12 +22,12 @@ use Rattle.dy_steps.proofs.Leading.{exit_laws}
 use Rattle.dy_lowered.specs.Flat.{Flat, Plain, Code, one}
 use Rattle.dy_lowered.specs.Parts as parts
 use Rattle.dy_lowering_law.specs.Force.{Keeps, KeepsWithin, RowsFit}
-use Rattle.dy_lowering_law.specs.Following.{Spot, scope_of, standing, after, Comes, Holds, IsRight, IsRightAfter, Follows}
+use Rattle.dy_lowering_law.specs.Following.{Spot, scope_of, standing, after, Comes, Holds, AreWords, IsRight, IsRightAfter, Follows}
 use Rattle.dy_lowering_law.specs.Kinds.{AllDo, push_all, GoesOn, Takes}
 use Rattle.dy_lowering_law.specs.Machines.{linked_program, machine_of}
 use Rattle.dy_lowering_law.specs.Renumbering.{body_of}
-use Rattle.dy_lowering_law.proofs.Leading.{comes_behind, stepped, then_comes, ends_at, Inside, inside_self, holds_front, holds_back}
-use Rattle.dy_lowering_law.proofs.Cases.{then_falls, then_keeps}
+use Rattle.dy_lowering_law.proofs.Leading.{comes_behind, stepped, then_words, ends_at, Inside, inside_self, holds_front, holds_back}
+use Rattle.dy_lowering_law.proofs.Cases.{then_falls, then_keeps_words, first_word}
 use Rattle.dy_lowering_law.proofs.Exiting.{pushed, inside_push}
 
 pub then_assoc : (o : Outcome) (f g : List Variant → State → Outcome) → and_then (and_then o f) g ≡ and_then o (λ values s. and_then (f values s) g)
@@ -54,12 +54,12 @@ module _ (program : Program) (n before locals : ℕ) where
     -- the arguments are evaluated and pushed; what follows is told what is known then
     pub arguments_come : (codes : List Code) (all : List Does) → AllDo program n before locals codes all → (x : Spot) (place : ℕ) (register : List Variant) (s : State) (k : ℕ) (go : List Variant → State → Outcome)
         → Holds (linked_program program) before x.running.body place (parts.arguments codes) → RowsFit x.running → Inside (machine_of program) (body_of program) x y → IsRight program locals s → s.fuel.left ≤ n
-        → ((values register1 : List Variant) (t : State) (j : ℕ) → length values ≡ length codes → t.fuel.left ≤ n → IsRight program locals t
+        → ((values register1 : List Variant) (t : State) (j : ℕ) → length values ≡ length codes → AreWords values → t.fuel.left ≤ n → IsRight program locals t
         → Comes (machine_of program) (standing (body_of program) (push_all values x) (place + length (parts.arguments codes)) register1 t j) (after (body_of program) y q (go values t)))
         → Comes (machine_of program) (standing (body_of program) x place register s k) (after (body_of program) y q (and_then (arguments all (scope_of x) s) go))
     arguments_come [] [] follow x place register s k go holds fit inside right few next =
         let e : place + 0 ≡ place = omega arith in
-        subst (λ (p : ℕ). Comes (machine_of program) (standing (body_of program) x p register s k) (after (body_of program) y q (go [] s))) e (next [] register s k refl few right)
+        subst (λ (p : ℕ). Comes (machine_of program) (standing (body_of program) x p register s k) (after (body_of program) y q (go [] s))) e (next [] register s k refl tt few right)
     arguments_come [] (does ∷ others) follow x place register s k go holds fit inside right few next = absurd follow
     arguments_come (code ∷ codes) [] follow x place register s k go holds fit inside right few next = absurd follow
     arguments_come (code ∷ codes) (does ∷ others) follow x place register s k go holds fit inside right few next =
@@ -74,19 +74,19 @@ module _ (program : Program) (n before locals : ℕ) where
         let long : p1 + 1 + length (parts.arguments codes) ≡ place + length (parts.arguments (code ∷ codes)) = omega (arith, length-append code (Plain instr.Push ∷ parts.arguments codes)) in
         subst (λ (o : Outcome). Comes m (standing number x place register s k) (after number y q o))
         (sym (then_assoc (does scope s) (λ vs t. and_then (arguments others scope t) (λ ws u. Gave (first vs ∷ ws) u)) go))
-        (then_comes m number program locals n (standing number x place register s k) x y p1 q (does scope s) _ inside
+        (then_words m number program locals n (standing number x place register s k) x y p1 q (does scope s) _ inside
         (follow.0.runs x place register s k (holds_front linked before body place code (Plain instr.Push ∷ parts.arguments codes) holds) fit right few)
         (omega (arith, less, few)) (follow.0.keeps scope s right)
-        (λ vs t j few1 right1.
+        (λ vs t j few1 right1 words.
         subst (λ (o : Outcome). Comes m (standing number x p1 vs t j) (after number y q o))
         (sym (then_assoc (arguments others scope t) (λ ws u. Gave (first vs ∷ ws) u) go))
         (comes_behind m (standing number x p1 vs t j) (standing number (pushed (first vs) x) (p1 + 1) vs t j) (after number y q (and_then (arguments others scope t) (λ ws u. go (first vs ∷ ws) u)))
         (stepped m number x p1 before vs t j (Plain instr.Push) (parts.arguments codes) back)
         (arguments_come codes others follow.1 (pushed (first vs) x) (p1 + 1) vs t j (λ ws u. go (first vs ∷ ws) u)
         back.1 (fits_push (first vs) x.running x.running.rows fit) (inside_both program (pushed (first vs) x) x y (inside_push m laws number (first vs) x fit) inside) right1 few1
-        (λ ws register1 u i count few2 right2.
+        (λ ws register1 u i count words2 few2 right2.
         subst (λ (p : ℕ). Comes m (standing number (push_all ws (pushed (first vs) x)) p register1 u i) (after number y q (go (first vs ∷ ws) u))) (sym long)
-        (next (first vs ∷ ws) register1 u i (ap suc count) few2 right2))))))
+        (next (first vs ∷ ws) register1 u i (ap suc count) (first_word vs words, words2) few2 right2))))))
 
 -- operands are taken
 le_true : (n m : ℕ) → n ≤ m → nat_le n m ≡ true
@@ -135,18 +135,18 @@ module _ (program : Program) (n before locals : ℕ) where
       (λ vs t. then_falls t.fuel.left (arguments others scope t) _ (arguments_fall codes others follow.1 scope t) (λ ws u. omega arith))
 
   arguments_keep : (codes : List Code) (all : List Does) → AllDo program n before locals codes all → (scope : Scope) (s : State) → IsRight program locals s → IsRightAfter program locals (arguments all scope s)
-  arguments_keep [] [] follow scope s right = right
+  arguments_keep [] [] follow scope s right = (right, tt)
   arguments_keep [] (does ∷ others) follow scope s right = absurd follow
   arguments_keep (code ∷ codes) [] follow scope s right = absurd follow
   arguments_keep (code ∷ codes) (does ∷ others) follow scope s right =
-      then_keeps program locals (does scope s) _ (follow.0.keeps scope s right)
-      (λ vs t right1. then_keeps program locals (arguments others scope t) _ (arguments_keep codes others follow.1 scope t right1) (λ ws u right2. right2))
+      then_keeps_words program locals (does scope s) _ (follow.0.keeps scope s right)
+      (λ vs t right1 words. then_keeps_words program locals (arguments others scope t) _ (arguments_keep codes others follow.1 scope t right1) (λ ws u right2 words2. (right2, (first_word vs words, words2))))
 
   pub arguments_follow : (codes : List Code) (all : List Does) (call : Instruction) (go : List Variant → Does) → AllDo program n before locals codes all → Takes program n before locals (length codes) call go
       → Follows program n before locals (parts.with_arguments codes call) (with_arguments all go)
   arguments_follow codes all call go follow takes = record {
     falls = λ scope s. then_falls s.fuel.left (arguments all scope s) _ (arguments_fall codes all follow scope s) (λ vs t. takes.falls vs scope t);
-    keeps = λ scope s right. then_keeps program locals (arguments all scope s) _ (arguments_keep codes all follow scope s right) (λ vs t right1. takes.keeps vs scope t right1);
+    keeps = λ scope s right. then_keeps_words program locals (arguments all scope s) _ (arguments_keep codes all follow scope s right) (λ vs t right1 words. takes.keeps vs words scope t right1);
     runs = λ x place register s k holds fit right few.
         let m = machine_of program in
         let number = body_of program in
@@ -156,9 +156,9 @@ module _ (program : Program) (n before locals : ℕ) where
         ends_at m number _ x (p1 + 1) _ (with_arguments all go (scope_of x) s) end
         (arguments_come program n before locals exit_laws x (p1 + 1) codes all follow x place register s k (λ vs t. go vs (scope_of x) t)
         (holds_front linked before x.running.body place (parts.arguments codes) (one call) holds) fit (inside_self m number x) right few
-        (λ values register1 t j long few1 right1. goes_behind program _ _ _
+        (λ values register1 t j long words few1 right1. goes_behind program _ _ _
         (stepped m number (push_all values x) p1 before register1 t j (Plain call) [] (body_same values x (p1) (holds_back linked before x.running.body place (parts.arguments codes) (one call) holds)))
-        (takes.runs values x (p1 + 1) register1 t j long fit right1 few1)));
+        (takes.runs values x (p1 + 1) register1 t j long words fit right1 few1)));
   }
     where
       body_same : (values : List Variant) (x : Spot) (p : ℕ) → Holds (linked_program program) before x.running.body p (one call) → Holds (linked_program program) before (push_all values x).running.body p (one call)
@@ -167,6 +167,6 @@ module _ (program : Program) (n before locals : ℕ) where
   pub values_taken : (count : ℕ) → Takes program n before locals count (instr.Values count) (λ values scope s. Gave values s)
   values_taken count = record {
     falls = λ values scope s. omega arith;
-    keeps = λ values scope s right. right;
-    runs = λ values x place register s k long fit right few. record { count = 0; searches = k; there = taken_all (body_of program) values count x place register s k gives long };
+    keeps = λ values words scope s right. (right, words);
+    runs = λ values x place register s k long words fit right few. record { count = 0; searches = k; there = taken_all (body_of program) values count x place register s k gives long };
   }

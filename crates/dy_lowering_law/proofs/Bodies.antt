@@ -18,14 +18,14 @@ use Rattle.dy_lowered.specs.Flat.{Flat, Plain, Code, one, past, past_if_false}
 use Rattle.dy_lowered.specs.Parts as parts
 use Rattle.dy_lowered.specs.Parts.{Part, Runs, Binds, Handles, part_code, values_behind, handler_count, without_handlers}
 use Rattle.dy_lowering_law.specs.Force.{RowsFit}
-use Rattle.dy_lowering_law.specs.Following.{Spot, scope_of, standing, after, Comes, Holds, IsRight, IsRightAfter, Follows, after_any, Prepares}
+use Rattle.dy_lowering_law.specs.Following.{Spot, scope_of, standing, after, Comes, Holds, AreWords, IsRight, IsRightAfter, Follows, after_any, Prepares}
 use Rattle.dy_lowering_law.specs.Kinds.{PartsDo}
 use Rattle.dy_lowering_law.specs.Machines.{linked_program, machine_of}
 use Rattle.dy_lowering_law.specs.Renumbering.{body_of}
 use Rattle.dy_lowering_law.proofs.Leading.{comes_at, comes_on, comes_by, comes_behind, stepped, then_comes, ends_at, inside_self, holds_front, holds_back}
 use Rattle.dy_steps.specs.Effects.{gives}
 use Rattle.dy_lowering_law.proofs.Arguments.{taken_all}
-use Rattle.dy_lowering_law.proofs.Cases.{then_falls, then_keeps, chosen_comes, chosen_falls, chosen_keeps, to_end}
+use Rattle.dy_lowering_law.proofs.Cases.{then_falls, then_keeps, then_keeps_words, first_word, chosen_comes, chosen_falls, chosen_keeps, to_end}
 use Rattle.dy_lowering_law.proofs.Exiting.{pushed}
 use Rattle.dy_lowering_law.proofs.Literals.{truth_follows}
 
@@ -44,7 +44,7 @@ module _ (program : Program) (n before locals : ℕ) where
   pub either_follows : (left right : Code) (a b : Does) → Follows program n before locals left a → Follows program n before locals right b → Follows program n before locals (parts.either left right) (either a b)
   either_follows left right a b fa fb = record {
     falls = λ scope s. then_falls s.fuel.left (a scope s) _ (fa.falls scope s) (λ values t. chosen_falls program n before locals t.fuel.left (is_false (first values)) (b scope) (gave (first values)) t (fb.falls scope t) (omega arith));
-    keeps = λ scope s right. then_keeps program locals (a scope s) _ (fa.keeps scope s right) (λ values t right1. chosen_keeps program n before locals (is_false (first values)) (b scope) (gave (first values)) t (fb.keeps scope t right1) right1);
+    keeps = λ scope s right. then_keeps_words program locals (a scope s) _ (fa.keeps scope s right) (λ values t right1 words. chosen_keeps program n before locals (is_false (first values)) (b scope) (gave (first values)) t (fb.keeps scope t right1) (right1, (first_word values words, tt)));
     runs = λ x place register s k holds fit right1 few.
         let m = machine_of program in
         let number = body_of program in
@@ -90,11 +90,11 @@ module _ (program : Program) (n before locals : ℕ) where
   turn_falls (Binds code ∷ codes) (means.Binds does ∷ all) values follow scope s = then_falls s.fuel.left (does scope s) _ (follow.0.falls scope s) (λ vs t. turn_falls codes all (Truth false ∷ []) follow.1 scope t)
   turn_falls codes all values follow scope s = absurd follow
 
-  turn_keeps : (codes : List Part) (all : List means.Part) (values : List Variant) → PartsDo program n before locals codes all → (scope : Scope) (s : State) → IsRight program locals s → IsRightAfter program locals (in_turn all values scope s)
-  turn_keeps [] [] values follow scope s right = right
-  turn_keeps (Runs code ∷ codes) (means.Runs does ∷ all) values follow scope s right = then_keeps program locals (does scope s) _ (follow.0.keeps scope s right) (λ vs t right1. turn_keeps codes all vs follow.1 scope t right1)
-  turn_keeps (Binds code ∷ codes) (means.Binds does ∷ all) values follow scope s right = then_keeps program locals (does scope s) _ (follow.0.keeps scope s right) (λ vs t right1. turn_keeps codes all (Truth false ∷ []) follow.1 scope t right1)
-  turn_keeps codes all values follow scope s right = absurd follow
+  turn_keeps : (codes : List Part) (all : List means.Part) (values : List Variant) → AreWords values → PartsDo program n before locals codes all → (scope : Scope) (s : State) → IsRight program locals s → IsRightAfter program locals (in_turn all values scope s)
+  turn_keeps [] [] values words follow scope s right = (right, words)
+  turn_keeps (Runs code ∷ codes) (means.Runs does ∷ all) values words follow scope s right = then_keeps_words program locals (does scope s) _ (follow.0.keeps scope s right) (λ vs t right1 words1. turn_keeps codes all vs words1 follow.1 scope t right1)
+  turn_keeps (Binds code ∷ codes) (means.Binds does ∷ all) values words follow scope s right = then_keeps program locals (does scope s) _ (follow.0.keeps scope s right) (λ vs t right1. turn_keeps codes all (Truth false ∷ []) (tt, tt) follow.1 scope t right1)
+  turn_keeps codes all values words follow scope s right = absurd follow
 
   -- one part, and what follows it
   part_comes : (code others : Code) (does : Does) (go : List Variant → State → Outcome) → Follows program n before locals code does
@@ -118,7 +118,7 @@ module _ (program : Program) (n before locals : ℕ) where
       → ((values : List Variant) (t : State) (j : ℕ) → t.fuel.left ≤ n → IsRight program locals t → Comes (machine_of program) (standing (body_of program) x p register t j) (after (body_of program) x q (go values t)))
       → Comes (machine_of program) c (after (body_of program) x q (and_then o go))
   then_any c x p q (Gave values t) register go comes few right k =
-      comes_on (machine_of program) c (λ j. standing (body_of program) x p register t j) (after (body_of program) x q (go values t)) comes (λ j. k values t j few right)
+      comes_on (machine_of program) c (λ j. standing (body_of program) x p register t j) (after (body_of program) x q (go values t)) comes (λ j. k values t j few right.0)
   then_any c x p q (Exits block values t) register go comes few right k = record { count = comes.count; searches = comes.searches; there = comes.there }
   then_any c x p q (Ended line t) register go comes few right k = record { count = comes.count; searches = comes.searches; there = comes.there }
   then_any c x p q (Spent t) register go comes few right k = record { count = comes.count; searches = comes.searches; there = comes.there }
@@ -175,6 +175,6 @@ module _ (program : Program) (n before locals : ℕ) where
       let same : joined ++ last ≡ parts.body codes = ap (λ (c : Code). joined ++ c) (sym (append-nil last)) ∙ ap (λ (j : ℕ). joined ++ (last ++ without_handlers j)) (sym (no_handlers codes all follow)) in
       subst (λ (c : Code). Follows program n before locals c (means.body all)) same (record {
         falls = λ scope s. turn_falls codes all (Truth false ∷ []) follow scope s;
-        keeps = λ scope s right. turn_keeps codes all (Truth false ∷ []) follow scope s right;
+        keeps = λ scope s right. turn_keeps codes all (Truth false ∷ []) (tt, tt) follow scope s right;
         runs = λ x place register s k holds fit right few. turn_comes codes all follow false x place register s k holds fit right few;
       })

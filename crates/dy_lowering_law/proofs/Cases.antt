@@ -1,24 +1,32 @@
 -- Of kinds of terms: where the code of the parts does what these do, so does that of the whole.
 use Rattle.std.proofs.Common.{◌≡◌, ℕ, zero, suc, ◌+◌, ◌≤◌, Bool, true, false, not, pos, List, [], ◌∷◌, ◌++◌, length, drop, refl, sym, ap, ◌∙◌, subst, arith, length-append}
+use Rattle.std.specs.Prelude.{slice_get}
+use Rattle.std.specs.declared.option.Option.{Option}
+use Rattle.std.specs.declared.option.Option.TheVariants.{None, Some}
+use Rattle.std.proofs.lemmas.Option.{same_Some, none-some}
 use Rattle.dy_term.specs.declared.rows.Program.{Program}
 use Rattle.dy_values.specs.declared.value.Variant.{Variant}
 use Rattle.dy_values.specs.declared.value.Variant.TheVariants.{Int, Char, Bool as Truth, Symbol, Nil, Class, TypeValue, Generic, Function, Builtin, Object}
+use Rattle.dy_values.specs.declared.object.ObjectRow.{ObjectRow}
+use Rattle.dy_values.specs.declared.object.ObjectRow.TheVariants as object
+use Rattle.dy_values.specs.declared.store.Store.{Store}
 use Rattle.dy_values.specs.Spending.{first, is_false}
 use Rattle.dy_outcome.specs.declared.state.State.{State}
 use Rattle.dy_outcome.specs.declared.place.Place.{Place}
 use Rattle.dy_outcome.specs.declared.place.Place.TheVariants.{Own, Captured}
 use Rattle.dy_outcome.specs.States.{Outcome, Gave, Exits, Ended, Spent, Scope, Does, and_then, gave}
 use Rattle.dy_outcome.specs.Nearness.{units_of, NeverRises}
-use Rattle.dy_outcome.specs.Places.{read}
+use Rattle.dy_outcome.specs.Places.{read, value_at, kept_at, content, or_itself, cell_in}
 use Rattle.dy_outcome.specs.Choices.{chosen, branching}
 use Rattle.dy_code.specs.Fetching.{Instruction}
 use Rattle.dy_code.specs.Fetching as instr
+use Rattle.dy_code.specs.Validity.{Every}
 use Rattle.dy_steps.specs.Configurations.{Config, Step, Goes}
 use Rattle.dy_steps.specs.Steps.{act, step, steps, jump_false}
 use Rattle.dy_lowered.specs.Flat.{Flat, Plain, Jump, JumpFalse, Code, one, past, past_if_false, placed}
 use Rattle.dy_lowered.specs.Parts as parts
 use Rattle.dy_lowering_law.specs.Force.{RowsFit}
-use Rattle.dy_lowering_law.specs.Following.{Spot, scope_of, standing, after, Comes, numbered, Holds, IsRight, IsRightAfter, Follows}
+use Rattle.dy_lowering_law.specs.Following.{Spot, scope_of, standing, after, Comes, numbered, Holds, IsWord, AreWords, IsWordOrNone, IsKnown, IsRight, IsRightAfter, Follows}
 use Rattle.dy_lowering_law.specs.Machines.{linked_program, machine_of}
 use Rattle.dy_lowering_law.specs.Renumbering.{body_of, renumbered}
 use Rattle.dy_lowering_law.proofs.Leading.{steps_more, comes_by, comes_behind, stepped, then_comes, ends_at, inside_self, holds_front, holds_back}
@@ -32,37 +40,85 @@ then_falls units (Spent s) go few falls = few
 
 module _ (program : Program) (locals : ℕ) where
   pub then_keeps : (o : Outcome) (go : List Variant → State → Outcome) → IsRightAfter program locals o → ((values : List Variant) (s : State) → IsRight program locals s → IsRightAfter program locals (go values s)) → IsRightAfter program locals (and_then o go)
-  then_keeps (Gave values s) go right keeps = keeps values s right
+  then_keeps (Gave values s) go right keeps = keeps values s right.0
   then_keeps (Exits block values s) go right keeps = right
   then_keeps (Ended line s) go right keeps = right
   then_keeps (Spent s) go right keeps = right
 
+  -- the same, where the values have 64 bits
+  pub then_keeps_words : (o : Outcome) (go : List Variant → State → Outcome) → IsRightAfter program locals o → ((values : List Variant) (s : State) → IsRight program locals s → AreWords values → IsRightAfter program locals (go values s)) → IsRightAfter program locals (and_then o go)
+  then_keeps_words (Gave values s) go right keeps = keeps values s right.0 right.1
+  then_keeps_words (Exits block values s) go right keeps = right
+  then_keeps_words (Ended line s) go right keeps = right
+  then_keeps_words (Spent s) go right keeps = right
+
+-- values of 64 bits
+pub first_word : (values : List Variant) → AreWords values → IsWord (first values)
+first_word [] words = tt
+first_word (value ∷ values) words = words.0
+
+pub less_words : (values : List Variant) → AreWords values → AreWords (drop 1 values)
+less_words [] words = tt
+less_words (value ∷ values) words = words.1
+
+pub word_at : (values : List Variant) (place : ℕ) → AreWords values → IsWord (value_at values place)
+word_at [] place words = tt
+word_at (value ∷ values) zero words = words.0
+word_at (value ∷ values) (suc place) words = word_at values place words.1
+
+known_row : (program : Program) (objects : List ObjectRow) (place : ℕ) → Every (IsKnown program) objects → (found : Option ObjectRow) → slice_get objects place ≡ found → IsWordOrNone (cell_in found)
+known_row program objects place known (Some (object.Cell value)) e = known_at objects place known e
+  where
+    known_at : (rows : List ObjectRow) (i : ℕ) → Every (IsKnown program) rows → slice_get rows i ≡ Some (object.Cell value) → IsWord value
+    known_at [] i all f = absurd (none-some (object.Cell value) f)
+    known_at (row ∷ rows) zero all f = subst (λ (r : ObjectRow). IsKnown program r) (same_Some row (object.Cell value) f) all.0
+    known_at (row ∷ rows) (suc i) all f = known_at rows i all.1 f
+known_row program objects place known found e = tt
+
+or_itself_word : (held : Option Variant) (value : Variant) → IsWordOrNone held → IsWord value → IsWord (or_itself held value)
+or_itself_word (Some held) value one other = one
+or_itself_word None value one other = other
+
+content_word : (program : Program) (store : Store) (value : Variant) → Every (IsKnown program) store.objects → IsWord value → IsWord (content store value)
+content_word program store (Object place) known word = or_itself_word (cell_in (slice_get store.objects place)) (Object place) (known_row program store.objects place known (slice_get store.objects place) refl) word
+content_word program store value known word = word
+
+-- what is read has 64 bits, and so has what is kept
+pub kept_word : (program : Program) (locals : ℕ) (place : Place) (s : State) → IsRight program locals s → IsWord (kept_at place s)
+kept_word program locals (Own k in_cell) s right = word_at s.frame.locals k right.words.locals
+kept_word program locals (Captured k) s right = word_at s.frame.captured k right.words.captured
+
+pub read_word : (program : Program) (locals : ℕ) (place : Place) (s : State) → IsRight program locals s → IsWord (read place s)
+read_word program locals (Own k false) s right = word_at s.frame.locals k right.words.locals
+read_word program locals (Own k true) s right = content_word program s.store (value_at s.frame.locals k) right.objects (word_at s.frame.locals k right.words.locals)
+read_word program locals (Captured k) s right = content_word program s.store (value_at s.frame.captured k) right.objects (word_at s.frame.captured k right.words.captured)
+
 module _ (program : Program) (n before locals : ℕ) where
   -- one instruction that gives a value
-  pub value_follows : (i : Instruction) (value : State → Variant)
+  pub value_follows : (i : Instruction) (value : State → Variant) → ((s : State) → IsRight program locals s → IsWord (value s))
       → ((x : Spot) (place : ℕ) (register : List Variant) (s : State) (k : ℕ) → act (machine_of program) (numbered before i) (standing (body_of program) x place register s k) ≡ Goes (standing (body_of program) x place (value s ∷ []) s k))
       → Follows program n before locals (one i) (λ scope s. gave (value s) s)
-  value_follows i value acts = record {
+  value_follows i value words acts = record {
     falls = λ scope s. omega arith;
-    keeps = λ scope s right. right;
+    keeps = λ scope s right. (right, (words s right, tt));
     runs = λ x place register s k holds fit right few.
         comes_by (machine_of program) _ _ k (stepped (machine_of program) (body_of program) x place before register s k (Plain i) [] holds ∙ acts x (place + 1) register s k);
   }
 
   pub read_follows : (place : Place) → Follows program n before locals (parts.read place) (λ scope s. gave (read place s) s)
-  read_follows (Own k false) = value_follows (instr.Local k) (read (Own k false)) (λ x place register s j. refl)
-  read_follows (Own k true) = value_follows (instr.CellGet k) (read (Own k true)) (λ x place register s j. ap (λ value. Goes (standing (body_of program) x place (value ∷ []) s j)) (read_same (body_of program) (Own k true) s))
-  read_follows (Captured k) = value_follows (instr.FreeGet k) (read (Captured k)) (λ x place register s j. ap (λ value. Goes (standing (body_of program) x place (value ∷ []) s j)) (read_same (body_of program) (Captured k) s))
+  read_follows (Own k false) = value_follows (instr.Local k) (read (Own k false)) (read_word program locals (Own k false)) (λ x place register s j. refl)
+  read_follows (Own k true) = value_follows (instr.CellGet k) (read (Own k true)) (read_word program locals (Own k true)) (λ x place register s j. ap (λ value. Goes (standing (body_of program) x place (value ∷ []) s j)) (read_same (body_of program) (Own k true) s))
+  read_follows (Captured k) = value_follows (instr.FreeGet k) (read (Captured k)) (read_word program locals (Captured k)) (λ x place register s j. ap (λ value. Goes (standing (body_of program) x place (value ∷ []) s j)) (read_same (body_of program) (Captured k) s))
 
   -- code, and an instruction that takes its values
   pub then_follows : (code : Code) (does : Does) (flat : Flat) (go : List Variant → State → Outcome) → Follows program n before locals code does
       → ((values : List Variant) (s : State) → units_of (go values s) ≤ s.fuel.left)
-      → ((values : List Variant) (s : State) → IsRight program locals s → IsRightAfter program locals (go values s))
+      → ((values : List Variant) (s : State) → IsRight program locals s → AreWords values → IsRightAfter program locals (go values s))
       → ((x : Spot) (place : ℕ) (values : List Variant) (s : State) (k : ℕ) → act (machine_of program) (numbered before (placed place flat)) (standing (body_of program) x (place + 1) values s k) ≡ after (body_of program) x (place + 1) (go values s) k)
       → Follows program n before locals (code ++ flat ∷ []) (λ scope s. and_then (does scope s) go)
   then_follows code does flat go follows falls keeps acts = record {
     falls = λ scope s. then_falls s.fuel.left (does scope s) go (follows.falls scope s) falls;
-    keeps = λ scope s right. then_keeps program locals (does scope s) go (follows.keeps scope s right) keeps;
+    keeps = λ scope s right. then_keeps_words program locals (does scope s) go (follows.keeps scope s right) keeps;
     runs = λ x place register s k holds fit right few.
         let m = machine_of program in
         let number = body_of program in

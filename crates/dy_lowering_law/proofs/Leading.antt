@@ -11,7 +11,7 @@ use Rattle.dy_steps.specs.Rows.{unwound}
 use Rattle.dy_steps.specs.Steps.{act, obeyed, step, steps}
 use Rattle.dy_term.specs.declared.rows.Program.{Program}
 use Rattle.dy_lowered.specs.Flat.{Flat, Code, placed}
-use Rattle.dy_lowering_law.specs.Following.{Spot, standing, after, Comes, numbered, Holds, IsRight, IsRightAfter}
+use Rattle.dy_lowering_law.specs.Following.{Spot, standing, after, Comes, numbered, Holds, AreWords, IsRight, IsRightAfter}
 
 module _ (m : Machine) where
   stopped : (count : ℕ) (ending : Ending) → steps m count (Stops ending) ≡ Stops ending
@@ -90,11 +90,23 @@ module _ (m : Machine) (number : ℕ → ℕ) where
       → ((values : List Variant) (state : State) (searches : ℕ) → state.fuel.left ≤ n → IsRight program locals state → Comes m (standing number x p values state searches) (after number y q (go values state)))
       → Comes m c (after number y q (and_then o go))
   then_comes program locals n c x y p q (Gave values state) go inside comes few right k =
-      comes_on m c (λ searches. standing number x p values state searches) (after number y q (go values state)) comes (λ searches. k values state searches few right)
+      comes_on m c (λ searches. standing number x p values state searches) (after number y q (go values state)) comes (λ searches. k values state searches few right.0)
   then_comes program locals n c x y p q (Exits block values state) go inside comes few right k =
       record { count = comes.count; searches = comes.searches; there = comes.there ∙ inside.by block values state comes.searches }
   then_comes program locals n c x y p q (Ended line state) go inside comes few right k = record { count = comes.count; searches = comes.searches; there = comes.there }
   then_comes program locals n c x y p q (Spent state) go inside comes few right k = record { count = comes.count; searches = comes.searches; there = comes.there }
+
+  -- the same, where the values have 64 bits
+  pub then_words : (program : Program) (locals n : ℕ) (c : Config) (x y : Spot) (p q : ℕ) (o : Outcome) (go : List Variant → State → Outcome) → Inside x y
+      → Comes m c (after number x p o) → units_of o ≤ n → IsRightAfter program locals o
+      → ((values : List Variant) (state : State) (searches : ℕ) → state.fuel.left ≤ n → IsRight program locals state → AreWords values → Comes m (standing number x p values state searches) (after number y q (go values state)))
+      → Comes m c (after number y q (and_then o go))
+  then_words program locals n c x y p q (Gave values state) go inside comes few right k =
+      comes_on m c (λ searches. standing number x p values state searches) (after number y q (go values state)) comes (λ searches. k values state searches few right.0 right.1)
+  then_words program locals n c x y p q (Exits block values state) go inside comes few right k =
+      record { count = comes.count; searches = comes.searches; there = comes.there ∙ inside.by block values state comes.searches }
+  then_words program locals n c x y p q (Ended line state) go inside comes few right k = record { count = comes.count; searches = comes.searches; there = comes.there }
+  then_words program locals n c x y p q (Spent state) go inside comes few right k = record { count = comes.count; searches = comes.searches; there = comes.there }
 
   pub ends_at : (c : Config) (x : Spot) (p q : ℕ) (o : Outcome) → p ≡ q → Comes m c (after number x p o) → Comes m c (after number x q o)
   ends_at c x p q o e comes = subst (λ (place : ℕ). Comes m c (after number x place o)) e comes

@@ -20,13 +20,13 @@ use Rattle.dy_steps.specs.Configurations.{Config, Goes}
 use Rattle.dy_lowered.specs.Flat.{Plain, Code, one}
 use Rattle.dy_lowered.specs.Parts as parts
 use Rattle.dy_lowering_law.specs.Force.{RowsFit}
-use Rattle.dy_lowering_law.specs.Following.{Spot, scope_of, standing, after, after_any, Comes, Reaches, Holds, IsRight, IsRightAfter, Follows, Prepares}
+use Rattle.dy_lowering_law.specs.Following.{Spot, scope_of, standing, after, after_any, Comes, Reaches, Holds, IsWord, AreWords, IsRight, IsRightAfter, Follows, Prepares}
 use Rattle.dy_lowering_law.specs.Machines.{linked_program, machine_of}
 use Rattle.dy_lowering_law.specs.Renumbering.{body_of, renumbered}
 use Rattle.dy_lowering_law.proofs.Leading.{comes_on, comes_by, comes_behind, stepped, holds_front, holds_back}
 use Rattle.dy_lowering_law.proofs.Same.{bind_same}
-use Rattle.dy_lowering_law.proofs.Cases.{then_falls, then_keeps}
-use Rattle.dy_lowering_law.proofs.Values.{known_added}
+use Rattle.dy_lowering_law.proofs.Cases.{then_falls, then_keeps_words, first_word}
+use Rattle.dy_lowering_law.proofs.Values.{known_added, local_words, cell_words}
 
 -- a cell with what the local has just taken
 cell_bound : (k : ℕ) (value : Variant) (s : State) → k < length s.frame.locals → bind (Own k true) (value_at (slice_set s.frame.locals k value) k) (with_local k value s) ≡ bind (Own k true) value s
@@ -36,17 +36,17 @@ cell_bound k value s within =
     ∙ ap (λ (l : List Variant). record s { frame = record (s.frame) { locals = l }; store = with_object s.store (object.Cell value) }) (set-set s.frame.locals k value (next_object s.store))
 
 module _ (program : Program) (n before locals : ℕ) where
-  bind_right : (k : ℕ) (in_cell : Bool) (value : Variant) (s : State) → IsRight program locals s → IsRight program locals (bind (Own k in_cell) value s)
-  bind_right k false value s right = record { objects = right.objects; frame = length-set s.frame.locals k value ∙ right.frame }
-  bind_right k true value s right = record { objects = known_added program s.store.objects (object.Cell value) right.objects tt; frame = length-set s.frame.locals k (next_object s.store) ∙ right.frame }
+  bind_right : (k : ℕ) (in_cell : Bool) (value : Variant) → IsWord value → (s : State) → IsRight program locals s → IsRight program locals (bind (Own k in_cell) value s)
+  bind_right k false value word s right = record { objects = right.objects; frame = length-set s.frame.locals k value ∙ right.frame; words = local_words s k value word right.words }
+  bind_right k true value word s right = record { objects = known_added program s.store.objects (object.Cell value) right.objects word; frame = length-set s.frame.locals k (next_object s.store) ∙ right.frame; words = cell_words s k value right.words }
 
   bind_falls : (k : ℕ) (in_cell : Bool) (values : List Variant) (s : State) → units_of (bound (Own k in_cell ∷ []) None values s) ≤ s.fuel.left
   bind_falls k false values s = omega arith
   bind_falls k true values s = omega arith
 
-  bind_keeps : (k : ℕ) (in_cell : Bool) (values : List Variant) (s : State) → IsRight program locals s → IsRightAfter program locals (bound (Own k in_cell ∷ []) None values s)
-  bind_keeps k false values s right = bind_right k false (first values) s right
-  bind_keeps k true values s right = bind_right k true (first values) s right
+  bind_keeps : (k : ℕ) (in_cell : Bool) (values : List Variant) → AreWords values → (s : State) → IsRight program locals s → IsRightAfter program locals (bound (Own k in_cell ∷ []) None values s)
+  bind_keeps k false values words s right = (bind_right k false (first values) (first_word values words) s right, tt)
+  bind_keeps k true values words s right = (bind_right k true (first values) (first_word values words) s right, tt)
 
   -- the local takes the first value, and perhaps gets its cell
   bind_comes : (k : ℕ) (in_cell : Bool) → k < locals → (x : Spot) (place : ℕ) (values : List Variant) (s : State) (j : ℕ) → Holds (linked_program program) before x.running.body place (parts.bound (Own k in_cell ∷ []) None) → IsRight program locals s
@@ -73,7 +73,7 @@ module _ (program : Program) (n before locals : ℕ) where
   let_comes k in_cell within c x p q (Gave values s) e holds comes right = record {
     register = first values ∷ [];
     comes = subst (λ (r : ℕ). Comes (machine_of program) c (λ i. Goes (standing (body_of program) x r (first values ∷ []) (bind (Own k in_cell) (first values) s) i))) e
-        (comes_on (machine_of program) c (λ i. standing (body_of program) x p values s i) _ comes (λ i. bind_comes k in_cell within x p values s i holds right));
+        (comes_on (machine_of program) c (λ i. standing (body_of program) x p values s i) _ comes (λ i. bind_comes k in_cell within x p values s i holds right.0));
   }
   let_comes k in_cell within c x p q (Exits block values s) e holds comes right = record { register = []; comes = record { count = comes.count; searches = comes.searches; there = comes.there } }
   let_comes k in_cell within c x p q (Ended line s) e holds comes right = record { register = []; comes = record { count = comes.count; searches = comes.searches; there = comes.there } }
@@ -83,7 +83,7 @@ pub let_prepares : (program : Program) (n before locals k : ℕ) (in_cell : Bool
     → Prepares program n before locals (parts.letting (Own k in_cell ∷ []) None code) (letting (Own k in_cell ∷ []) None does)
 let_prepares program n before locals k in_cell code does within follows = record {
   falls = λ scope s. then_falls s.fuel.left (does scope s) _ (follows.falls scope s) (λ values t. bind_falls program n before locals k in_cell values t);
-  keeps = λ scope s right. then_keeps program locals (does scope s) _ (follows.keeps scope s right) (λ values t right1. bind_keeps program n before locals k in_cell values t right1);
+  keeps = λ scope s right. then_keeps_words program locals (does scope s) _ (follows.keeps scope s right) (λ values t right1 words. bind_keeps program n before locals k in_cell values words t right1);
   runs = λ x place register s j holds fit right few.
       let puts = parts.bound (Own k in_cell ∷ []) None in
       let end : place + length code + length puts ≡ place + length (code ++ puts) = omega (arith, length-append code puts) in

@@ -19,8 +19,9 @@ use Rattle.dy_meaning.specs.Meaning.{literal, with_made}
 use Rattle.dy_steps.specs.Steps.{act, made}
 use Rattle.dy_lowered.specs.Flat.{Code, Plain, one}
 use Rattle.dy_lowered.specs.Parts as parts
-use Rattle.dy_lowering_law.specs.Following.{Spot, standing, after, IsKnown, IsRight, IsRightAfter, Follows}
-use Rattle.dy_lowering_law.specs.Machines.{machine_of}
+use Rattle.dy_lowered.specs.Words.{is_word, is_word_literal}
+use Rattle.dy_lowering_law.specs.Following.{Spot, scope_of, standing, after, Comes, Holds, IsWord, IsKnown, IsRight, IsRightAfter, Follows}
+use Rattle.dy_lowering_law.specs.Machines.{linked_program, machine_of}
 use Rattle.dy_lowering_law.specs.Renumbering.{body_of, renumbered, renumbered_store}
 use Rattle.dy_lowering_law.proofs.Leading.{comes_by, stepped}
 use Rattle.dy_lowering_law.proofs.Same.{next_same, added_same}
@@ -55,7 +56,7 @@ module _ (program : Program) where
   string_low bytes s false = omega arith
 
   string_right : (bytes : List ℕ) (locals : ℕ) (s : State) (b : Bool) → IsRight program locals s → IsRightAfter program locals (with_made (if b then Makes (next_object s.store) (with_object s.store (object.Bytes bytes)) (s.fuel.left - (length bytes + 1)) else Lacks) s)
-  string_right bytes locals s true right = record { objects = known_added program s.store.objects (object.Bytes bytes) right.objects tt; frame = right.frame }
+  string_right bytes locals s true right = (record { objects = known_added program s.store.objects (object.Bytes bytes) right.objects tt; frame = right.frame; words = record { locals = right.words.locals; captured = right.words.captured; globals = right.words.globals } }, (tt, tt))
   string_right bytes locals s false right = tt
 
   made_low : (kind : Literal-F Literal) (s : State) → units_of (with_made (made_kind kind s.store s.fuel.left) s) ≤ s.fuel.left
@@ -68,15 +69,18 @@ module _ (program : Program) where
   made_low (Literal-F.List items last) s = omega arith
   made_low (Literal-F.Vector items) s = omega arith
 
-  made_right : (kind : Literal-F Literal) (locals : ℕ) (s : State) → IsRight program locals s → IsRightAfter program locals (with_made (made_kind kind s.store s.fuel.left) s)
-  made_right (Literal-F.Int k) locals s right = record { objects = right.objects; frame = right.frame }
-  made_right (Literal-F.Char code) locals s right = record { objects = right.objects; frame = right.frame }
-  made_right (Literal-F.Bool value) locals s right = record { objects = right.objects; frame = right.frame }
-  made_right (Literal-F.Symbol name) locals s right = record { objects = right.objects; frame = right.frame }
-  made_right Literal-F.Nil locals s right = record { objects = right.objects; frame = right.frame }
-  made_right (Literal-F.Str bytes) locals s right = string_right bytes locals s (nat_le (length bytes + 1) s.fuel.left) right
-  made_right (Literal-F.List items last) locals s right = record { objects = right.objects; frame = right.frame }
-  made_right (Literal-F.Vector items) locals s right = record { objects = right.objects; frame = right.frame }
+  itself_right : (locals : ℕ) (value : Variant) → IsWord value → (s : State) → IsRight program locals s → IsRightAfter program locals (gave value s)
+  itself_right locals value word s right = (record { objects = right.objects; frame = right.frame; words = right.words }, (word, tt))
+
+  made_right : (kind : Literal-F Literal) → is_word kind ≡ true → (locals : ℕ) (s : State) → IsRight program locals s → IsRightAfter program locals (with_made (made_kind kind s.store s.fuel.left) s)
+  made_right (Literal-F.Int k) word locals s right = itself_right locals (Int k) word s right
+  made_right (Literal-F.Char code) word locals s right = itself_right locals (Char code) tt s right
+  made_right (Literal-F.Bool value) word locals s right = itself_right locals (Truth value) tt s right
+  made_right (Literal-F.Symbol name) word locals s right = itself_right locals Nil tt s right
+  made_right Literal-F.Nil word locals s right = itself_right locals Nil tt s right
+  made_right (Literal-F.Str bytes) word locals s right = string_right bytes locals s (nat_le (length bytes + 1) s.fuel.left) right
+  made_right (Literal-F.List items last) word locals s right = itself_right locals Nil tt s right
+  made_right (Literal-F.Vector items) word locals s right = itself_right locals Nil tt s right
 
 module _ (program : Program) (n before locals : ℕ) where
   made_after : (d : Made) (x : Spot) (place : ℕ) (register : List Variant) (s : State) (k : ℕ)
@@ -84,19 +88,23 @@ module _ (program : Program) (n before locals : ℕ) where
   made_after (Makes value store units) x place register s k = refl
   made_after Lacks x place register s k = refl
 
-  pub literal_follows : (value : Literal) → Follows program n before locals (one (instr.Const value)) (literal value)
-  literal_follows value = record {
+  pub literal_comes : (value : Literal) (x : Spot) (place : ℕ) (register : List Variant) (s : State) (k : ℕ) → Holds (linked_program program) before x.running.body place (one (instr.Const value))
+      → Comes (machine_of program) (standing (body_of program) x place register s k) (after (body_of program) x (place + 1) (literal value (scope_of x) s))
+  literal_comes value x place register s k holds =
+      comes_by (machine_of program) _ _ k (stepped (machine_of program) (body_of program) x place before register s k (Plain (instr.Const value)) [] holds
+      ∙ ap (λ d. made d (standing (body_of program) x (place + 1) register s k)) (made_same (body_of program) (out-Literal value) s.store s.fuel.left)
+      ∙ made_after (made_literal value s.store s.fuel.left) x (place + 1) register s k)
+
+  pub literal_follows : (value : Literal) → is_word_literal value ≡ true → Follows program n before locals (one (instr.Const value)) (literal value)
+  literal_follows value word = record {
     falls = λ scope s. made_low program (out-Literal value) s;
-    keeps = λ scope s right. made_right program (out-Literal value) locals s right;
-    runs = λ x place register s k holds fit right few.
-        comes_by (machine_of program) _ _ k (stepped (machine_of program) (body_of program) x place before register s k (Plain (instr.Const value)) [] holds
-        ∙ ap (λ d. made d (standing (body_of program) x (place + 1) register s k)) (made_same (body_of program) (out-Literal value) s.store s.fuel.left)
-        ∙ made_after (made_literal value s.store s.fuel.left) x (place + 1) register s k);
+    keeps = λ scope s right. made_right program (out-Literal value) word locals s right;
+    runs = λ x place register s k holds fit right few. literal_comes value x place register s k holds;
   }
 
   pub truth_follows : (b : Bool) → Follows program n before locals (parts.truth b) (λ scope s. gave (Truth b) s)
   truth_follows b =
-      subst (λ (kind : Literal-F Literal). Follows program n before locals (parts.truth b) (λ scope s. with_made (made_kind kind s.store s.fuel.left) s)) (out-roll-Literal (Literal-F.Bool b)) (literal_follows (roll-Literal (Literal-F.Bool b)))
+      subst (λ (kind : Literal-F Literal). Follows program n before locals (parts.truth b) (λ scope s. with_made (made_kind kind s.store s.fuel.left) s)) (out-roll-Literal (Literal-F.Bool b)) (literal_follows (roll-Literal (Literal-F.Bool b)) (ap (λ (kind : Literal-F Literal). is_word kind) (out-roll-Literal (Literal-F.Bool b))))
 
   false_itself : (value : Variant) (right : State → Outcome) (s : State) → chosen (is_false value) (gave (Truth false)) right s ≡ chosen (is_false value) (gave value) right s
   false_itself (Truth true) right s = refl

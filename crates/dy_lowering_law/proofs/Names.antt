@@ -1,6 +1,6 @@
 -- Names of libraries.
 use Rattle.std.specs.Prelude.{codes}
-use Rattle.std.proofs.Common.{◌≡◌, ℕ, zero, suc, ◌+◌, ◌≤◌, List, [], ◌∷◌, ◌++◌, refl, sym, ap, ◌∙◌, arith}
+use Rattle.std.proofs.Common.{◌≡◌, ℕ, zero, suc, ◌+◌, ◌≤◌, Bool, true, false, List, [], ◌∷◌, ◌++◌, refl, sym, ap, ◌∙◌, arith}
 use Rattle.std.specs.declared.option.Option.{Option}
 use Rattle.std.specs.declared.option.Option.TheVariants.{None, Some}
 use Rattle.dy_base.specs.declared.ids.Ref.{Ref}
@@ -21,23 +21,42 @@ use Rattle.dy_outcome.specs.States.{Outcome, Does, Scope, gave}
 use Rattle.dy_outcome.specs.Nearness.{units_of}
 use Rattle.dy_outcome.specs.Calls.{calls_within, signalled}
 use Rattle.dy_code.specs.Fetching as instr
-use Rattle.dy_meaning.specs.Globals.{name_of, variable_at, value_of, given_or, with_global, read_global, assigning_global}
+use Rattle.dy_code.specs.Validity.{Every}
+use Rattle.dy_meaning.specs.Globals.{name_of, variable_at, is_same_variable, value_if, value_of, entries_if, set_in, given_or, with_global, read_global, assigning_global}
 use Rattle.dy_meaning.specs.Programs.{world}
 use Rattle.dy_steps.specs.Configurations.{Config, Step, Goes}
 use Rattle.dy_steps.specs.Effects.{gives, performed}
 use Rattle.dy_steps.specs.Steps.{act}
 use Rattle.dy_lowered.specs.Flat.{Plain, Code, one}
 use Rattle.dy_lowered.specs.Terms.{class_named, generic_named}
-use Rattle.dy_lowering_law.specs.Following.{Spot, scope_of, standing, after, IsRight, IsRightAfter, Follows}
+use Rattle.dy_lowering_law.specs.Following.{Spot, scope_of, standing, after, IsWord, IsWordOrNone, IsWordGlobal, IsRight, IsRightAfter, Follows}
 use Rattle.dy_lowering_law.specs.Kinds.{NamesFollow}
 use Rattle.dy_lowering_law.specs.Machines.{machine_of, failing_from, value_or}
 use Rattle.dy_lowering_law.specs.Renumbering.{body_of, renumbered, renumbered_store}
 use Rattle.dy_lowering_law.proofs.Leading.{comes_by, stepped}
-use Rattle.dy_lowering_law.proofs.Cases.{value_follows, then_follows}
+use Rattle.dy_lowering_law.proofs.Cases.{first_word, value_follows, then_follows}
 
 -- the text of the error of a variable that is read too early
 abbrev early : Program → BindingId → List ℕ
 early program named = codes "variable " ++ name_of (variable_at program named.at) ++ codes " read before its definition"
+
+-- the variables have values of 64 bits
+word_if : (b : Bool) (one other : Option Variant) → IsWordOrNone one → IsWordOrNone other → IsWordOrNone (value_if b one other)
+word_if true one other h g = h
+word_if false one other h g = g
+
+word_of : (named : BindingId) (entries : List (BindingId × Option Variant)) → Every IsWordGlobal entries → IsWordOrNone (value_of entries named)
+word_of named [] words = tt
+word_of named (entry ∷ entries) words = word_if (is_same_variable entry.0 named) entry.1 (value_of entries named) words.0 (word_of named entries words.1)
+
+words_if : (b : Bool) (one other : List (BindingId × Option Variant)) → Every IsWordGlobal one → Every IsWordGlobal other → Every IsWordGlobal (entries_if b one other)
+words_if true one other h g = h
+words_if false one other h g = g
+
+pub words_set : (named : BindingId) (value : Variant) → IsWord value → (entries : List (BindingId × Option Variant)) → Every IsWordGlobal entries → Every IsWordGlobal (set_in entries named value)
+words_set named value word [] words = (word, tt)
+words_set named value word (entry ∷ entries) words =
+    words_if (is_same_variable entry.0 named) ((entry.0, Some value) ∷ entries) (entry ∷ set_in entries named value) (word, words.1) (words.0, words_set named value word entries words.1)
 
 module _ (program : Program) (n before locals : ℕ) where
   abbrev failed : (text : List ℕ) (units : ℕ) → Scope → State → Outcome
@@ -73,9 +92,9 @@ module _ (program : Program) (n before locals : ℕ) where
     known_low (Some value) scope s = omega arith
     known_low None scope s = failed_low text s.fuel.left scope s
 
-    known_right : (value : Option Variant) (scope : Scope) (s : State) → IsRight program locals s → IsRightAfter program locals (known value scope s)
-    known_right (Some value) scope s right = right
-    known_right None scope s right = failed_right text s.fuel.left scope s
+    known_right : (value : Option Variant) → IsWordOrNone value → (scope : Scope) (s : State) → IsRight program locals s → IsRightAfter program locals (known value scope s)
+    known_right (Some value) word scope s right = (right, (word, tt))
+    known_right None word scope s right = failed_right text s.fuel.left scope s
 
   variable_follows : (at : Ref) (bound : ℕ) → Follows program n before locals (one (instr.Global (record { what = what.Variable; at = at }))) (read_global program (calls_within (world program) bound) (record { what = what.Variable; at = at }))
   variable_follows at bound =
@@ -83,7 +102,7 @@ module _ (program : Program) (n before locals : ℕ) where
       let text = early program named in
       record {
         falls = λ scope s. known_low text (value_of s.store.globals named) scope s;
-        keeps = λ scope s right. known_right text (value_of s.store.globals named) scope s right;
+        keeps = λ scope s right. known_right text (value_of s.store.globals named) (word_of named s.store.globals right.words.globals) scope s right;
         runs = λ x place register s k holds fit right few.
             comes_by (machine_of program) _ _ k (stepped (machine_of program) (body_of program) x place before register s k (Plain (instr.Global named)) [] holds
             ∙ known_after text (value_of s.store.globals named) x (place + 1) register s k);
@@ -95,7 +114,7 @@ module _ (program : Program) (n before locals : ℕ) where
       let text = early program named in
       record {
         falls = λ scope s. known_low text (value_of s.store.globals named) scope s;
-        keeps = λ scope s right. known_right text (value_of s.store.globals named) scope s right;
+        keeps = λ scope s right. known_right text (value_of s.store.globals named) (word_of named s.store.globals right.words.globals) scope s right;
         runs = λ x place register s k holds fit right few.
             comes_by (machine_of program) _ _ k (stepped (machine_of program) (body_of program) x place before register s k (Plain (instr.Global named)) [] holds
             ∙ known_after text (value_of s.store.globals named) x (place + 1) register s k);
@@ -104,13 +123,20 @@ module _ (program : Program) (n before locals : ℕ) where
   set_follows : (named : BindingId) (code : Code) (does : Does) → Follows program n before locals code does → Follows program n before locals (code ++ one (instr.SetGlobal named)) (assigning_global named does)
   set_follows named code does follows =
       then_follows program n before locals code does (Plain (instr.SetGlobal named)) (λ values s. gave (first values) (with_global named (first values) s)) follows
-      (λ values s. omega arith) (λ values s right. record { objects = right.objects; frame = right.frame }) (λ x place values s j. refl)
+      (λ values s. omega arith) (λ values s right words. (
+        record {
+          objects = right.objects;
+          frame = right.frame;
+          words = record { locals = right.words.locals; captured = right.words.captured; globals = words_set named (first values) (first_word values words) s.store.globals right.words.globals };
+        },
+        (first_word values words, tt),
+      )) (λ x place values s j. refl)
 
   pub names_follow : NamesFollow program n before locals
   names_follow = record {
-    classes = λ class. value_follows program n before locals (instr.Global (class_named class)) (λ s. Class class) (λ x place register s k. refl);
-    generics = λ generic. value_follows program n before locals (instr.Global (generic_named generic)) (λ s. Generic generic) (λ x place register s k. refl);
-    functions = λ at bound. value_follows program n before locals (instr.Global (record { what = what.Function; at = at })) (λ s. Function (record { what = what.Function; at = at })) (λ x place register s k. refl);
+    classes = λ class. value_follows program n before locals (instr.Global (class_named class)) (λ s. Class class) (λ s right. tt) (λ x place register s k. refl);
+    generics = λ generic. value_follows program n before locals (instr.Global (generic_named generic)) (λ s. Generic generic) (λ s right. tt) (λ x place register s k. refl);
+    functions = λ at bound. value_follows program n before locals (instr.Global (record { what = what.Function; at = at })) (λ s. Function (record { what = what.Function; at = at })) (λ s right. tt) (λ x place register s k. refl);
     variables = variable_follows;
     constants = constant_follows;
     assignments = set_follows;

@@ -1,15 +1,19 @@
 -- The machine follows the meaning: from every place it does on the code of a term what the term
 -- does, whichever of its four ends that has.
-use Rattle.std.specs.Prelude.{◌≡◌, ℕ, ◌+◌, ◌<◌, ◌≤◌, List, [], ◌∷◌, ◌++◌, length}
-use Rattle.std.specs.declared.option.Option.TheVariants.{Some}
+use Rattle.std.specs.Prelude.{◌≡◌, ℕ, ◌+◌, ◌<◌, ◌≤◌, true, List, [], ◌∷◌, ◌++◌, length}
+use Rattle.std.specs.declared.option.Option.{Option}
+use Rattle.std.specs.declared.option.Option.TheVariants.{None, Some}
+use Rattle.dy_base.specs.declared.ids.BindingId.{BindingId}
 use Rattle.dy_term.specs.declared.rows.Program.{Program}
 use Rattle.dy_values.specs.declared.value.Variant.{Variant}
+use Rattle.dy_values.specs.declared.value.Variant.TheVariants.{Int}
 use Rattle.dy_values.specs.declared.object.ObjectRow.{ObjectRow}
 use Rattle.dy_values.specs.declared.object.ObjectRow.TheVariants.{Closure, Exit, NextMethod}
-use Rattle.dy_values.specs.declared.object.ObjectRow.TheVariants.{NextHandler}
+use Rattle.dy_values.specs.declared.object.ObjectRow.TheVariants.{NextHandler, Cell}
 use Rattle.dy_outcome.specs.declared.state.State.{State}
 use Rattle.dy_outcome.specs.States.{Scope, Outcome, Gave, Exits, Ended, Spent, Does}
 use Rattle.dy_outcome.specs.Nearness.{NeverRises}
+use Rattle.dy_outcome.specs.Turns.{fits}
 use Rattle.dy_code.specs.Fetching.{Instruction, Closure as MakesClosure, fetch}
 use Rattle.dy_code.specs.Programs.{Task}
 use Rattle.dy_code.specs.Validity.{Every}
@@ -79,23 +83,48 @@ Holds linked before body place (flat ∷ code) =
     ≡ Some (record { instruction = numbered before (placed place flat); next = place + 1 }))
     × Holds linked before body (place + 1) code
 
--- Closures are of lambdas of the program. Exit procedures, next-method and next-handler procedures
--- are not made yet.
+-- a value that has 64 bits if it is an integer
+abbrev pub IsWord : Variant → Type 0
+IsWord (Int number) = fits number ≡ true
+IsWord value = Unit {0}
+
+abbrev pub AreWords : List Variant → Type 0
+AreWords values = Every IsWord values
+
+abbrev pub IsWordOrNone : Option Variant → Type 0
+IsWordOrNone None = Unit {0}
+IsWordOrNone (Some value) = IsWord value
+
+abbrev pub IsWordGlobal : BindingId × Option Variant → Type 0
+IsWordGlobal entry = IsWordOrNone entry.1
+
+-- Closures are of lambdas of the program, and what they captured and what cells hold has 64 bits.
+-- Exit procedures, next-method and next-handler procedures are not made yet.
 abbrev pub IsKnown : Program → ObjectRow → Type 0
-IsKnown program (Closure lambda captured) = lambda < length (lambdas_of program)
+IsKnown program (Closure lambda captured) =
+    (lambda < length (lambdas_of program)) × AreWords captured
+IsKnown program (Cell value) = IsWord value
 IsKnown program (Exit block) = ⊥
 IsKnown program (NextMethod generic methods ambiguous arguments) = ⊥
 IsKnown program (NextHandler block value) = ⊥
 IsKnown program row = Unit {0}
 
+-- what variables have, and the locals of a body
+pub record HasWords (state : State) : Type 0 where
+  pub locals : AreWords state.frame.locals
+  pub captured : AreWords state.frame.captured
+  pub globals : Every IsWordGlobal state.store.globals
+
 -- a state of a body with so many locals
 pub record IsRight (program : Program) (locals : ℕ) (state : State) : Type 0 where
   pub objects : Every (IsKnown program) state.store.objects
   pub frame : length state.frame.locals ≡ locals
+  pub words : HasWords state
 
 abbrev pub IsRightAfter : Program → ℕ → Outcome → Type 0
-IsRightAfter program locals (Gave values state) = IsRight program locals state
-IsRightAfter program locals (Exits block values state) = IsRight program locals state
+IsRightAfter program locals (Gave values state) = IsRight program locals state × AreWords values
+IsRightAfter program locals (Exits block values state) =
+    IsRight program locals state × AreWords values
 IsRightAfter program locals (Ended line state) = Unit {0}
 IsRightAfter program locals (Spent state) = Unit {0}
 

@@ -1,6 +1,7 @@
 -- The theorem for kinds of terms: where the code of the parts does what these do, so does that of
 -- the whole.
-use Rattle.std.specs.Prelude.{◌≡◌, ◌≤◌, ◌<◌, ℕ, nat_eq, Bool, false, List, [], ◌∷◌, ◌++◌, length}
+use Rattle.std.specs.Prelude.{◌≡◌, ◌≤◌, ◌<◌, ℕ, nat_eq, Bool, true, false, List, [], ◌∷◌, ◌++◌}
+use Rattle.std.specs.Prelude.{length}
 use Rattle.std.specs.declared.option.Option.TheVariants.{None}
 use Rattle.dy_values.specs.declared.value.Variant.{Variant}
 use Rattle.dy_outcome.specs.declared.state.State.{State}
@@ -27,6 +28,7 @@ use Rattle.dy_outcome.specs.Calls.{calls_within}
 use Rattle.dy_meaning.specs.Globals.{read_global, assigning_global}
 use Rattle.dy_meaning.specs.Programs.{world}
 use Rattle.dy_lowered.specs.Terms.{class_named, generic_named}
+use Rattle.dy_lowered.specs.Words.{is_word_literal}
 use Rattle.dy_lowered.specs.Flat.{Code, one}
 use Rattle.dy_meaning.specs.Meaning.{literal, with_arguments}
 use Rattle.dy_steps.specs.Configurations.{Step, Machine}
@@ -34,8 +36,8 @@ use Rattle.dy_steps.specs.Exits.{with_operand}
 use Rattle.dy_steps.specs.Steps.{act, steps}
 use Rattle.dy_term.specs.declared.literal.Literal.{Literal}
 use Rattle.dy_lowered.specs.Parts as parts
-use Rattle.dy_lowering_law.specs.Following.{Spot, scope_of, standing, after, numbered, IsRight}
-use Rattle.dy_lowering_law.specs.Following.{IsRightAfter, Follows, Prepares}
+use Rattle.dy_lowering_law.specs.Following.{Spot, scope_of, standing, after, numbered, AreWords}
+use Rattle.dy_lowering_law.specs.Following.{IsRight, IsRightAfter, Follows, Prepares}
 use Rattle.dy_lowering_law.specs.Force.{RowsFit}
 use Rattle.dy_lowering_law.specs.Machines.{machine_of}
 use Rattle.dy_lowering_law.specs.Renumbering.{body_of}
@@ -79,6 +81,7 @@ AssignmentsFollow = (program : Program) (n before locals : ℕ) (place : Place) 
 -- a literal
 abbrev pub LiteralsFollow : Type 0
 LiteralsFollow = (program : Program) (n before locals : ℕ) (value : Literal)
+    → is_word_literal value ≡ true
     → Follows program n before locals (one (Const value)) (literal value)
 
 -- `&`
@@ -110,11 +113,11 @@ pub record GoesOn (m : Machine) (from : Step) (to : ℕ → Step) : Type 0 where
 pub record Takes (program : Program) (n before locals count : ℕ) (call : Instruction)
     (go : List Variant → Does) : Type 0 where
   pub falls : (values : List Variant) → NeverRises (go values)
-  pub keeps : (values : List Variant) (scope : Scope) (state : State)
+  pub keeps : (values : List Variant) → AreWords values → (scope : Scope) (state : State)
       → IsRight program locals state → IsRightAfter program locals (go values scope state)
   pub runs : (values : List Variant) (x : Spot) (place : ℕ) (register : List Variant)
-      (state : State) (searches : ℕ) → length values ≡ count → RowsFit x.running
-      → IsRight program locals state → state.fuel.left ≤ n
+      (state : State) (searches : ℕ) → length values ≡ count → AreWords values
+      → RowsFit x.running → IsRight program locals state → state.fuel.left ≤ n
       → GoesOn (machine_of program)
       (act (machine_of program) (numbered before call)
       (standing (body_of program) (push_all values x) place register state searches))

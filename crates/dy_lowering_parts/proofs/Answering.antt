@@ -171,10 +171,10 @@ module _ (program : Program) (n before locals : ℕ) where
 
   piece_right : (text : List ℕ) (s : State) → IsRight program locals s → IsRight program locals (with_piece text s)
   piece_right [] s right = right
-  piece_right (byte ∷ bytes) s right = record { objects = right.objects; frame = right.frame }
+  piece_right (byte ∷ bytes) s right = record { objects = right.objects; frame = right.frame; words = record { locals = right.words.locals; captured = right.words.captured; globals = right.words.globals } }
 
   written_right : (o : formatting.Outcome) (s : State) → IsRight program locals s → IsRightAfter program locals (written program o s)
-  written_right (formatting.Written text units) s right = piece_right text (with_units units s) (record { objects = right.objects; frame = right.frame })
+  written_right (formatting.Written text units) s right = (piece_right text (with_units units s) (record { objects = right.objects; frame = right.frame; words = record { locals = right.words.locals; captured = right.words.captured; globals = right.words.globals } }), tt)
   written_right (formatting.Failed error units) s right = tt
   written_right formatting.NoUnit s right = tt
 
@@ -186,8 +186,8 @@ module _ (program : Program) (n before locals : ℕ) where
   taken_if number count false e = operation_takes program n before locals number count e (applied_low number)
   taken_if number count true e = record {
     falls = λ values. (orderly program).operations number values;
-    keeps = λ values scope s right. subst (λ b. IsRightAfter program locals (operated_if b program number values s)) (sym e) (output_right values s right);
-    runs = λ values x place register s k long fit right few. record {
+    keeps = λ values words scope s right. subst (λ b. IsRightAfter program locals (operated_if b program number values s)) (sym e) (output_right values s right);
+    runs = λ values x place register s k long words fit right few. record {
       count = 0;
       searches = k;
       there = taken_all (body_of program) values count x place register s k (operate (machine_of program) number) long

@@ -27,17 +27,17 @@ use Rattle.dy_steps.specs.Arguments.{vector_made}
 use Rattle.dy_steps.specs.Steps.{step, pushed_with}
 use Rattle.dy_lowered.specs.Flat.{Plain, Code, one}
 use Rattle.dy_lowered.specs.Parts as parts
-use Rattle.dy_lowering_law.specs.Following.{Spot, scope_of, standing, after_any, Comes, Reaches, Holds, IsRight, IsRightAfter, Follows, Prepares}
+use Rattle.dy_lowering_law.specs.Following.{Spot, scope_of, standing, after_any, Comes, Reaches, Holds, IsWord, AreWords, IsRight, IsRightAfter, Follows, Prepares}
 use Rattle.dy_lowering_law.specs.Kinds.{push_all}
 use Rattle.dy_lowering_law.specs.Machines.{linked_program, machine_of}
 use Rattle.dy_lowering_law.specs.Renumbering.{body_of, renumbered}
 use Rattle.dy_lowering_law.proofs.Leading.{comes_at, comes_on, comes_by, comes_behind, stepped, holds_front, holds_back}
 use Rattle.dy_lowering_law.proofs.Arguments.{taken_all}
-use Rattle.dy_lowering_law.proofs.Cases.{then_keeps}
+use Rattle.dy_lowering_law.proofs.Cases.{then_keeps_words, first_word, less_words}
 use Rattle.dy_lowering_law.proofs.Exiting.{pushed}
 use Rattle.dy_lowering_law.proofs.Lets.{let_prepares}
 use Rattle.dy_lowering_law.proofs.Same.{bind_same, next_same, added_same}
-use Rattle.dy_lowering_law.proofs.Values.{known_added}
+use Rattle.dy_lowering_law.proofs.Values.{known_added, local_words, cell_words, captured_words}
 use Rattle.dy_lowering_parts.specs.Lets.{AreOwn, IsNone, AreDistinct, all_places}
 use Rattle.dy_lowering_parts.proofs.Reaching.{reach_then}
 
@@ -242,7 +242,7 @@ module _ (program : Program) (n before locals : ℕ) where
   with_vector surplus s = record s { fuel = record { left = s.fuel.left - (length surplus + 1) }; store = with_object s.store (object.Vector false surplus) }
 
   vector_right : (surplus : List Variant) (s : State) → IsRight program locals s → IsRight program locals (with_vector surplus s)
-  vector_right surplus s right = record { objects = known_added program s.store.objects (object.Vector false surplus) right.objects tt; frame = right.frame }
+  vector_right surplus s right = record { objects = known_added program s.store.objects (object.Vector false surplus) right.objects tt; frame = right.frame; words = record { locals = right.words.locals; captured = right.words.captured; globals = right.words.globals } }
 
   collected_comes : (b : Bool) (places : List Place) (rest : Place) (surplus : List Variant) (x : Spot) (place q : ℕ) (values : List Variant) (s : State) (k : ℕ) → place + length (rest_code places rest) ≡ q
       → step (machine_of program) (standing (body_of program) x place values s k)
@@ -286,25 +286,25 @@ module _ (program : Program) (n before locals : ℕ) where
       (stepped (machine_of program) (body_of program) x place before values s k (Plain (instr.Spread (length places) true)) (bound_code (places ++ rest ∷ [])) holds)
       own distinct holds.1 right
 
-  pub bind_right : (place : Place) (value : Variant) (s : State) → IsRight program locals s → IsRight program locals (bind place value s)
-  bind_right (Own k false) value s right = record { objects = right.objects; frame = length-set s.frame.locals k value ∙ right.frame }
-  bind_right (Own k true) value s right = record { objects = known_added program s.store.objects (object.Cell value) right.objects tt; frame = length-set s.frame.locals k (next_object s.store) ∙ right.frame }
-  bind_right (Captured k) value s right = record { objects = right.objects; frame = right.frame }
+  pub bind_right : (place : Place) (value : Variant) → IsWord value → (s : State) → IsRight program locals s → IsRight program locals (bind place value s)
+  bind_right (Own k false) value word s right = record { objects = right.objects; frame = length-set s.frame.locals k value ∙ right.frame; words = local_words s k value word right.words }
+  bind_right (Own k true) value word s right = record { objects = known_added program s.store.objects (object.Cell value) right.objects word; frame = length-set s.frame.locals k (next_object s.store) ∙ right.frame; words = cell_words s k value right.words }
+  bind_right (Captured k) value word s right = record { objects = right.objects; frame = right.frame; words = captured_words s k value word right.words }
 
-  all_right : (places : List Place) (values : List Variant) (s : State) → IsRight program locals s → IsRight program locals (all_bound places values s)
-  all_right [] values s right = right
-  all_right (place ∷ places) values s right = all_right places (drop 1 values) (bind place (first values) s) (bind_right place (first values) s right)
+  all_right : (places : List Place) (values : List Variant) → AreWords values → (s : State) → IsRight program locals s → IsRight program locals (all_bound places values s)
+  all_right [] values words s right = right
+  all_right (place ∷ places) values words s right = all_right places (drop 1 values) (less_words values words) (bind place (first values) s) (bind_right place (first values) (first_word values words) s right)
 
-  collected_right : (b : Bool) (places : List Place) (rest : Place) (surplus values : List Variant) (s : State) → IsRight program locals s
+  collected_right : (b : Bool) (places : List Place) (rest : Place) (surplus values : List Variant) → AreWords values → (s : State) → IsRight program locals s
       → IsRightAfter program locals (and_then (spend_if b (length surplus + 1) s (made (object.Vector false surplus))) (λ vs t. Gave [] (bind rest (first vs) (all_bound places values t))))
-  collected_right false places rest surplus values s right = tt
-  collected_right true places rest surplus values s right = bind_right rest (next_object s.store) (all_bound places values (with_vector surplus s)) (all_right places values (with_vector surplus s) (vector_right surplus s right))
+  collected_right false places rest surplus values words s right = tt
+  collected_right true places rest surplus values words s right = (bind_right rest (next_object s.store) tt (all_bound places values (with_vector surplus s)) (all_right places values words (with_vector surplus s) (vector_right surplus s right)), tt)
 
-  bound_right : (places : List Place) (rest : Option Place) (values : List Variant) (s : State) → IsRight program locals s → IsRightAfter program locals (bound places rest values s)
-  bound_right places None values s right = all_right places values s right
-  bound_right places (Some rest) values s right =
+  bound_right : (places : List Place) (rest : Option Place) (values : List Variant) → AreWords values → (s : State) → IsRight program locals s → IsRightAfter program locals (bound places rest values s)
+  bound_right places None values words s right = (all_right places values words s right, tt)
+  bound_right places (Some rest) values words s right =
       let surplus = drop (length places) values in
-      collected_right (nat_le (length surplus + 1) s.fuel.left) places rest surplus values s right
+      collected_right (nat_le (length surplus + 1) s.fuel.left) places rest surplus values words s right
 
   -- code that binds the values of a term
   abbrev Binds : List Place → Option Place → Code → Type 0
@@ -317,7 +317,7 @@ module _ (program : Program) (n before locals : ℕ) where
       → Prepares program n before locals (code ++ puts) (letting places rest does)
   prepares_by places rest puts code does binds follows = record {
     falls = λ scope s. (letting_alike 0 places rest does does (itself_alike 0 does follows.falls) scope s).falls;
-    keeps = λ scope s right. then_keeps program locals (does scope s) _ (follows.keeps scope s right) (λ values t right1. bound_right places rest values t right1);
+    keeps = λ scope s right. then_keeps_words program locals (does scope s) _ (follows.keeps scope s right) (λ values t right1 words. bound_right places rest values words t right1);
     runs = λ x place register s k holds fit right few.
         let end : place + length code + length puts ≡ place + length (code ++ puts) = omega (arith, length-append code puts) in
         reach_then program n locals (standing (body_of program) x place register s k) x (place + length code) (place + length (code ++ puts)) (does (scope_of x) s) (λ values t. bound places rest values t)

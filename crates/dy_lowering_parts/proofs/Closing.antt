@@ -30,20 +30,20 @@ use Rattle.dy_lowered.specs.Parts.{Method}
 use Rattle.dy_lowered.specs.Terms.{methods_from}
 use Rattle.dy_lowering_law.specs.Force.{RowsFit}
 use Rattle.dy_lowering_law.specs.Behaving.{IsNumbered, AreNumberedFrom}
-use Rattle.dy_lowering_law.specs.Following.{Spot, scope_of, standing, after, after_any, Comes, Reaches, numbered, Holds, IsRight, IsRightAfter, Follows, Prepares}
+use Rattle.dy_lowering_law.specs.Following.{Spot, scope_of, standing, after, after_any, Comes, Reaches, numbered, Holds, AreWords, IsRight, IsRightAfter, Follows, Prepares}
 use Rattle.dy_lowering_law.specs.Kinds.{push_all}
 use Rattle.dy_lowering_law.specs.Machines.{linked_program, machine_of}
 use Rattle.dy_lowering_law.specs.Renumbering.{body_of, renumbered, renumbered_store}
 use Rattle.dy_lowering_law.proofs.Leading.{comes_at, comes_on, comes_by, comes_behind, stepped, holds_front, holds_back}
 use Rattle.dy_lowering_law.proofs.Arguments.{taken_all, then_assoc}
-use Rattle.dy_lowering_law.proofs.Cases.{then_keeps}
+use Rattle.dy_lowering_law.proofs.Cases.{then_keeps_words, first_word, kept_word}
 use Rattle.dy_lowering_law.proofs.Exiting.{pushed}
 use Rattle.dy_lowering_law.proofs.Literals.{truth_follows}
 use Rattle.dy_lowering_law.proofs.Same.{bind_same, next_same, added_same}
 use Rattle.dy_lowering_law.proofs.Values.{known_added, assign_right, assigning_follows}
 use Rattle.dy_lowering_parts.specs.Lets.{IsOwn}
 use Rattle.dy_lowering_parts.specs.Closures.{AreMethods, Methods, StandThere, lambdas_among}
-use Rattle.dy_lowering_parts.proofs.Looping.{with_left, unit_keeps}
+use Rattle.dy_lowering_parts.proofs.Looping.{with_left, unit_keeps, left_right}
 use Rattle.dy_lowering_parts.proofs.Binding.{laid_same, goes_at, cell_bound, bind_right}
 use Rattle.dy_lowering_parts.proofs.Reaching.{reach_on, reach_then}
 
@@ -91,6 +91,10 @@ module _ (program : Program) (n before locals : ℕ) where
       (captures_come places (pushed value x) (place + 1 + 1) (value ∷ []) s k to holds.1.1
       (λ register1. subst (λ (p : ℕ). Comes (machine_of program) (standing (body_of program) (push_all (captured_at places s) (pushed value x)) p register1 s k) to) end (next register1)))
 
+  captured_words : (places : List Place) (s : State) → IsRight program locals s → AreWords (captured_at places s)
+  captured_words [] s right = tt
+  captured_words (place ∷ places) s right = (kept_word program locals place s right, captured_words places s right)
+
   module _ (body : ℕ) (lambda : Closing) (is : IsNumbered program before lambda.number body) where
     closure_same : (store : Store) (left : ℕ) (s : State)
         → with_object (renumbered_store (body_of program) store) (object.Closure (before + body) (captured_at lambda.captured s))
@@ -112,10 +116,14 @@ module _ (program : Program) (n before locals : ℕ) where
     closing_follows = record {
       falls = λ scope s. (closing_alike 0 lambda scope s).falls;
       keeps = λ scope s right. unit_keeps program n before locals s.fuel.left s (λ t. made (object.Closure lambda.number (captured_at lambda.captured t)) t)
-          (λ left. record {
-            objects = known_added program s.store.objects (object.Closure lambda.number (captured_at lambda.captured (with_left left s))) right.objects is.known;
-            frame = right.frame;
-          });
+          (λ left. (
+            record {
+              objects = known_added program s.store.objects (object.Closure lambda.number (captured_at lambda.captured (with_left left s))) right.objects (is.known, captured_words lambda.captured (with_left left s) (left_right program n before locals left s right));
+              frame = right.frame;
+              words = record { locals = right.words.locals; captured = right.words.captured; globals = right.words.globals };
+            },
+            (tt, tt),
+          ));
       runs = λ x place register s k holds fit right few.
           let m = machine_of program in
           let number = body_of program in
@@ -171,11 +179,11 @@ module _ (program : Program) (n before locals : ℕ) where
       (comes_on m (standing number x place false_alone s k) (λ j. standing number x p1 false_alone t j) _
       (subst (λ (at : Place). Comes m (standing number x place false_alone s k) (λ j. Goes (standing number x p1 false_alone (bind at (Truth false) s) j))) are.0
       (declare_comes method.place (parts.declared methods) (subst (λ (at : Place). IsOwn locals at) (sym are.0) are.2) x place s k holds right))
-      (λ j. declared_come methods others are.4 x p1 t j (holds_back (linked_program program) before x.running.body place code (parts.declared methods) holds) (bind_right program n before locals made.0 (Truth false) s right)))
+      (λ j. declared_come methods others are.4 x p1 t j (holds_back (linked_program program) before x.running.body place code (parts.declared methods) holds) (bind_right program n before locals made.0 (Truth false) tt s right)))
 
   declared_right : (closings : List (Place × Closing)) (s : State) → IsRight program locals s → IsRight program locals (declared closings s)
   declared_right [] s right = right
-  declared_right (made ∷ others) s right = declared_right others (bind made.0 (Truth false) s) (bind_right program n before locals made.0 (Truth false) s right)
+  declared_right (made ∷ others) s right = declared_right others (bind made.0 (Truth false) s) (bind_right program n before locals made.0 (Truth false) tt s right)
 
   declared_left : (closings : List (Place × Closing)) (s : State) → (declared closings s).fuel.left ≡ s.fuel.left
   declared_left [] s = refl
@@ -219,12 +227,12 @@ module _ (program : Program) (n before locals : ℕ) where
       (λ values t j few1 right1. defined_come methods others are.4 x p1 values t j (holds_back linked before x.running.body place code rest holds) fit right1 few1)))
 
   defined_right : (methods : List Method) (closings : List (Place × Closing)) → AreMethods program before locals methods closings → (scope : Scope) (s : State) → IsRight program locals s → IsRightAfter program locals (defined closings scope s)
-  defined_right [] [] are scope s right = right
+  defined_right [] [] are scope s right = (right, tt)
   defined_right [] (made ∷ others) are scope s right = absurd are
   defined_right (method ∷ methods) [] are scope s right = absurd are
   defined_right (method ∷ methods) (made ∷ others) are scope s right =
-      then_keeps program locals (closing made.1 scope s) _ ((closing_follows method.body made.1 are.3).keeps scope s right)
-      (λ vs t right1. defined_right methods others are.4 scope (assign made.0 (first vs) t) (assign_right program locals made.0 (first vs) t right1))
+      then_keeps_words program locals (closing made.1 scope s) _ ((closing_follows method.body made.1 are.3).keeps scope s right)
+      (λ vs t right1 words. defined_right methods others are.4 scope (assign made.0 (first vs) t) (assign_right program locals made.0 (first vs) (first_word vs words) t right1))
 
   pub methods_follow : (methods : List Method) (closings : List (Place × Closing)) → AreMethods program before locals methods closings
       → Prepares program n before locals (parts.local_methods methods) (local_methods closings)

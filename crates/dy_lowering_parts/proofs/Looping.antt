@@ -42,7 +42,7 @@ module _ (program : Program) (n before locals : ℕ) where
   unit_keeps (suc left) s go next = next left
 
   pub left_right : (left : ℕ) (s : State) → IsRight program locals s → IsRight program locals (with_left left s)
-  left_right left s right = record { objects = right.objects; frame = right.frame }
+  left_right left s right = record { objects = right.objects; frame = right.frame; words = record { locals = right.words.locals; captured = right.words.captured; globals = right.words.globals } }
 
   module _ (test inner : Code) (a b : Does) (fa : Follows program n before locals test a) (fb : Follows program n before locals inner b) where
     abbrev back : ℕ
@@ -119,9 +119,9 @@ module _ (program : Program) (n before locals : ℕ) where
 
     looping_keeps : (turns : ℕ) (scope : Scope) (s : State) → IsRight program locals s → IsRightAfter program locals (looping turns a b scope s)
     looping_keeps zero scope s right =
-        then_keeps program locals (a scope s) _ (fa.keeps scope s right) (λ values t right1. chosen_keeps program n before locals (is_false (first values)) (gave (Truth false)) exhausted t right1 tt)
+        then_keeps program locals (a scope s) _ (fa.keeps scope s right) (λ values t right1. chosen_keeps program n before locals (is_false (first values)) (gave (Truth false)) exhausted t (right1, (tt, tt)) tt)
     looping_keeps (suc turns) scope s right =
-        then_keeps program locals (a scope s) _ (fa.keeps scope s right) (λ values t right1. chosen_keeps program n before locals (is_false (first values)) (gave (Truth false)) (λ p. spend_unit p (λ u. and_then (b scope u) (λ ws v. looping turns a b scope v))) t right1
+        then_keeps program locals (a scope s) _ (fa.keeps scope s right) (λ values t right1. chosen_keeps program n before locals (is_false (first values)) (gave (Truth false)) (λ p. spend_unit p (λ u. and_then (b scope u) (λ ws v. looping turns a b scope v))) t (right1, (tt, tt))
         (unit_keeps t.fuel.left t (λ u. and_then (b scope u) (λ ws v. looping turns a b scope v)) (λ left. then_keeps program locals (b scope (with_left left t)) _ (fb.keeps scope (with_left left t) (left_right left t right1)) (λ ws v right2. looping_keeps turns scope v right2))))
 
     pub loop_follows : Follows program n before locals (parts.loop test inner) (loop a b)

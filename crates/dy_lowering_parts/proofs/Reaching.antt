@@ -33,7 +33,7 @@ module _ (program : Program) where
       → ((values : List Variant) (t : State) (j : ℕ) → t.fuel.left ≤ n → IsRight program locals t → Reaches (machine_of program) (standing (body_of program) x p values t j) (after_any (body_of program) x q (go values t)))
       → Reaches (machine_of program) c (after_any (body_of program) x q (and_then o go))
   reach_then n locals c x p q (Gave values t) go comes few right next =
-      reach_on c (λ j. standing (body_of program) x p values t j) (after_any (body_of program) x q (go values t)) comes (λ j. next values t j few right)
+      reach_on c (λ j. standing (body_of program) x p values t j) (after_any (body_of program) x q (go values t)) comes (λ j. next values t j few right.0)
   reach_then n locals c x p q (Exits block values t) go comes few right next = record { register = []; comes = record { count = comes.count; searches = comes.searches; there = comes.there } }
   reach_then n locals c x p q (Ended line t) go comes few right next = record { register = []; comes = record { count = comes.count; searches = comes.searches; there = comes.there } }
   reach_then n locals c x p q (Spent t) go comes few right next = record { register = []; comes = record { count = comes.count; searches = comes.searches; there = comes.there } }

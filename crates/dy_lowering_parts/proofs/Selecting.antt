@@ -15,13 +15,13 @@ use Rattle.dy_lowered.specs.Flat.{Plain, Code, one, past, past_if_false}
 use Rattle.dy_lowered.specs.Parts as parts
 use Rattle.dy_lowered.specs.Parts.{Comparing, compared, meeting}
 use Rattle.dy_lowering_law.specs.Force.{RowsFit}
-use Rattle.dy_lowering_law.specs.Following.{Spot, scope_of, standing, after, Comes, numbered, Holds, IsRight, IsRightAfter, Follows}
+use Rattle.dy_lowering_law.specs.Following.{Spot, scope_of, standing, after, Comes, numbered, Holds, IsWord, IsRight, IsRightAfter, Follows}
 use Rattle.dy_lowering_law.specs.Kinds.{AllDo, GoesOn}
 use Rattle.dy_lowering_law.specs.Machines.{linked_program, machine_of}
 use Rattle.dy_lowering_law.specs.Renumbering.{body_of}
-use Rattle.dy_lowering_law.proofs.Leading.{comes_on, comes_behind, stepped, then_comes, ends_at, Inside, holds_front, holds_back}
+use Rattle.dy_lowering_law.proofs.Leading.{comes_on, comes_behind, stepped, then_comes, then_words, ends_at, Inside, holds_front, holds_back}
 use Rattle.dy_lowering_law.proofs.Arguments.{inside_both, goes_behind}
-use Rattle.dy_lowering_law.proofs.Cases.{then_keeps, chosen_keeps, to_end}
+use Rattle.dy_lowering_law.proofs.Cases.{then_keeps, then_keeps_words, first_word, chosen_keeps, to_end}
 use Rattle.dy_lowering_law.proofs.Exiting.{pushed}
 use Rattle.dy_lowering_parts.specs.Selects.{ArmsDo}
 use Rattle.dy_lowering_parts.proofs.Binding.{with_all}
@@ -35,10 +35,10 @@ under lying x = with_all (lying ++ x.running.operands) x
 pub record Compares (program : Program) (n before locals : ℕ) (by : Comparing) (lying kept : List Variant) (met : Variant → Does) : Type 0 where
   pub again : (x : Spot) (place : ℕ) (register : List Variant) (s : State) (k : ℕ) → Holds (linked_program program) before x.running.body place by.again
       → Comes (machine_of program) (standing (body_of program) (under lying x) place register s k) (λ j. Goes (standing (body_of program) (under lying (under lying x)) (place + length by.again) kept s j))
-  pub calls : (value : Variant) (x : Spot) (place : ℕ) (register : List Variant) (s : State) (k : ℕ) → RowsFit x.running → IsRight program locals s → s.fuel.left ≤ n
+  pub calls : (value : Variant) → IsWord value → (x : Spot) (place : ℕ) (register : List Variant) (s : State) (k : ℕ) → RowsFit x.running → IsRight program locals s → s.fuel.left ≤ n
       → GoesOn (machine_of program) (act (machine_of program) (numbered before by.call) (standing (body_of program) (pushed value (under lying x)) place register s k)) (after (body_of program) x place (met value (scope_of x) s))
   pub falls : (value : Variant) → NeverRises (met value)
-  pub keeps : (value : Variant) (scope : Scope) (s : State) → IsRight program locals s → IsRightAfter program locals (met value scope s)
+  pub keeps : (value : Variant) → IsWord value → (scope : Scope) (s : State) → IsRight program locals s → IsRightAfter program locals (met value scope s)
   pub away : (x : Spot) (place : ℕ) (register : List Variant) (s : State) (k : ℕ)
       → act (machine_of program) (numbered before by.away) (standing (body_of program) (under lying x) place register s k) ≡ Goes (standing (body_of program) x place kept s k)
   pub fits : (x : Spot) → RowsFit x.running → RowsFit (under lying x).running
@@ -87,18 +87,19 @@ module _ (program : Program) (n before locals : ℕ) where
         let less = follows.falls scope s in
         comes_on m (standing number y place register s k) (λ j. standing number z p1 kept s j) _
         (is.again x place register s k (holds_front linked before body place by.again (code ++ last) holds))
-        (λ j. then_comes m number program locals n (standing number z p1 kept s j) z x p2 q (does scope s) (λ vs t. and_then (met (first vs) scope t) go)
+        (λ j. then_words m number program locals n (standing number z p1 kept s j) z x p2 q (does scope s) (λ vs t. and_then (met (first vs) scope t) go)
         (inside_both program z y x (is.inside y fit_y) (is.inside x fit))
         (follows.runs z p1 kept s j (holds_front linked before body p1 code last h1) fit_z right few) (omega (arith, less, few)) (follows.keeps scope s right)
-        (λ vs t i few1 right1.
+        (λ vs t i few1 right1 words.
         let value = first vs in
+        let word = first_word vs words in
         let lower = is.falls value scope t in
         comes_behind m (standing number z p2 vs t i) (standing number (pushed value z) (p2 + 1) vs t i) _
         (stepped m number z p2 before vs t i (Plain instr.Push) (one by.call) h2)
         (then_comes m number program locals n (standing number (pushed value z) (p2 + 1) vs t i) y x (p2 + 1 + 1) q (met value scope t) go (is.inside x fit)
         (goes_behind program (standing number (pushed value z) (p2 + 1) vs t i) _ _ (stepped m number (pushed value z) (p2 + 1) before vs t i (Plain by.call) [] h2.1)
-        (is.calls value y (p2 + 1 + 1) vs t i fit_y right1 few1))
-        (omega (arith, lower, few1)) (is.keeps value scope t right1)
+        (is.calls value word y (p2 + 1 + 1) vs t i fit_y right1 few1))
+        (omega (arith, lower, few1)) (is.keeps value word scope t right1)
         (next_at (place + length (compared by code)) (p2 + 1 + 1) go (sym end) next))))
 
     -- the values of an arm
@@ -187,7 +188,7 @@ module _ (program : Program) (n before locals : ℕ) where
         (λ ws u j few1 right1. selecting_comes codes others follow.2 missed last follows (f + length takes) ws u j h3 behind right1 few1)
 
   -- states stay right
-  module _ (met : Variant → Does) (keeps : (value : Variant) (scope : Scope) (s : State) → IsRight program locals s → IsRightAfter program locals (met value scope s)) where
+  module _ (met : Variant → Does) (keeps : (value : Variant) → IsWord value → (scope : Scope) (s : State) → IsRight program locals s → IsRightAfter program locals (met value scope s)) where
     matching_keeps : (codes : List Code) (all : List Does) → AllDo program n before locals codes all → (found missed : Does) (scope : Scope)
         → ((t : State) → IsRight program locals t → IsRightAfter program locals (found scope t)) → ((t : State) → IsRight program locals t → IsRightAfter program locals (missed scope t))
         → (s : State) → IsRight program locals s → IsRightAfter program locals (matching met all found missed scope s)
@@ -195,8 +196,8 @@ module _ (program : Program) (n before locals : ℕ) where
     matching_keeps [] (does ∷ others) follow found missed scope one other s right = absurd follow
     matching_keeps (code ∷ codes) [] follow found missed scope one other s right = absurd follow
     matching_keeps (code ∷ codes) (does ∷ others) follow found missed scope one other s right =
-        then_keeps program locals (does scope s) _ (follow.0.keeps scope s right) (λ vs t right1.
-        then_keeps program locals (met (first vs) scope t) _ (keeps (first vs) scope t right1) (λ ws u right2.
+        then_keeps_words program locals (does scope s) _ (follow.0.keeps scope s right) (λ vs t right1 words.
+        then_keeps program locals (met (first vs) scope t) _ (keeps (first vs) (first_word vs words) scope t right1) (λ ws u right2.
         chosen_keeps program n before locals (is_false (first ws)) (matching met others found missed scope) (found scope) u
         (matching_keeps codes others follow.1 found missed scope one other u right2) (one u right2)))
 

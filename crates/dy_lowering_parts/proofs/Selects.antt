@@ -27,13 +27,13 @@ use Rattle.dy_steps.proofs.Leading.{exit_laws}
 use Rattle.dy_lowered.specs.Flat.{Plain, Code, one}
 use Rattle.dy_lowered.specs.Parts as parts
 use Rattle.dy_lowered.specs.Parts.{by_identity, by_function}
-use Rattle.dy_lowering_law.specs.Following.{Spot, scope_of, standing, after, Holds, Follows}
+use Rattle.dy_lowering_law.specs.Following.{Spot, scope_of, standing, after, Holds, IsWord, Follows}
 use Rattle.dy_lowering_law.specs.Kinds.{AllDo}
 use Rattle.dy_lowering_law.specs.Machines.{linked_program, machine_of}
 use Rattle.dy_lowering_law.specs.Renumbering.{body_of, renumbered}
-use Rattle.dy_lowering_law.proofs.Leading.{comes_by, comes_behind, stepped, then_comes, inside_self, holds_front, holds_back}
+use Rattle.dy_lowering_law.proofs.Leading.{comes_by, comes_behind, stepped, then_words, inside_self, holds_front, holds_back}
 use Rattle.dy_lowering_law.proofs.Arguments.{taken_all, inside_both}
-use Rattle.dy_lowering_law.proofs.Cases.{then_keeps}
+use Rattle.dy_lowering_law.proofs.Cases.{then_keeps_words, first_word}
 use Rattle.dy_lowering_law.proofs.Exiting.{pushed, inside_push}
 use Rattle.dy_lowering_law.proofs.Lines.{line_same}
 use Rattle.dy_lowering_parts.specs.Selects.{CallsTaken, HeldDo, ArmsDo}
@@ -44,8 +44,8 @@ use Rattle.dy_lowering_parts.proofs.Selecting.{Compares, selecting_comes, select
 
 module _ (program : Program) (n before locals : ℕ) where
   -- by `==`: the value lies among the operands
-  identity_compares : (v : Variant) → Compares program n before locals by_identity (v ∷ []) (v ∷ []) (λ w. operated program identity (v ∷ w ∷ []))
-  identity_compares v =
+  identity_compares : (v : Variant) → IsWord v → Compares program n before locals by_identity (v ∷ []) (v ∷ []) (λ w. operated program identity (v ∷ w ∷ []))
+  identity_compares v word =
       let m = machine_of program in
       let number = body_of program in
       let takes = all_taken program n before locals identity 2 in
@@ -58,18 +58,18 @@ module _ (program : Program) (n before locals : ℕ) where
             (stepped m number x (place + 1) before (v ∷ []) s k (Plain instr.Push) (one instr.Push) holds.1)
             (comes_by m _ _ k (stepped m number (pushed v x) (place + 1 + 1) before (v ∷ []) s k (Plain instr.Push) [] holds.1.1
             ∙ ap (λ (p : ℕ). Goes (standing number (pushed v (pushed v x)) p (v ∷ []) s k)) end)));
-        calls = λ w x place register s k fit right few. takes.runs (v ∷ w ∷ []) x place register s k refl fit right few;
+        calls = λ w other x place register s k fit right few. takes.runs (v ∷ w ∷ []) x place register s k refl (word, (other, tt)) fit right few;
         falls = λ w. takes.falls (v ∷ w ∷ []);
-        keeps = λ w scope s right. takes.keeps (v ∷ w ∷ []) scope s right;
+        keeps = λ w other scope s right. takes.keeps (v ∷ w ∷ []) (word, (other, tt)) scope s right;
         away = λ x place register s k. taken_all number (v ∷ []) 1 x place register s k gives refl;
         fits = λ x fit. fits_laid v x.running x.running.rows fit;
         inside = λ x fit. inside_push m exit_laws number v x fit;
       }
 
   -- by a function: it lies under the value
-  function_compares : (bound : ℕ) → CallsTaken program n before locals bound 2 → (f v : Variant)
+  function_compares : (bound : ℕ) → CallsTaken program n before locals bound 2 → (f v : Variant) → IsWord f → IsWord v
       → Compares program n before locals by_function (v ∷ f ∷ []) (f ∷ v ∷ []) (λ w. (calls_within (world program) bound).value f (v ∷ w ∷ []))
-  function_compares bound takes f v =
+  function_compares bound takes f v called word =
       let m = machine_of program in
       let number = body_of program in
       let both = f ∷ v ∷ [] in
@@ -83,9 +83,9 @@ module _ (program : Program) (n before locals : ℕ) where
             (stepped m number x (place + 1) before both s k (Plain (instr.Spread 2 false)) (one (instr.Spread 2 false)) holds.1)
             (comes_by m _ _ k (stepped m number y (place + 1 + 1) before both s k (Plain (instr.Spread 2 false)) [] holds.1.1
             ∙ ap (λ (p : ℕ). Goes (standing number (pushed v (pushed f y)) p both s k)) end)));
-        calls = λ w x place register s k fit right few. takes.runs (f ∷ v ∷ w ∷ []) x place register s k refl fit right few;
+        calls = λ w other x place register s k fit right few. takes.runs (f ∷ v ∷ w ∷ []) x place register s k refl (called, (word, (other, tt))) fit right few;
         falls = λ w. takes.falls (f ∷ v ∷ w ∷ []);
-        keeps = λ w scope s right. takes.keeps (f ∷ v ∷ w ∷ []) scope s right;
+        keeps = λ w other scope s right. takes.keeps (f ∷ v ∷ w ∷ []) (called, (word, (other, tt))) scope s right;
         away = λ x place register s k. taken_all number both 2 x place register s k gives refl;
         fits = λ x fit. fits_laid v (pushed f x).running x.running.rows (fits_laid f x.running x.running.rows fit);
         inside = λ x fit. inside_both program (pushed v (pushed f x)) (pushed f x) x
@@ -152,8 +152,8 @@ module _ (program : Program) (n before locals : ℕ) where
       same_follows : Follows program n before locals (value ++ (Plain instr.Push ∷ parts.selecting by_identity arms missed)) (choices.select calls_do same_do v None all other)
       same_follows = record {
         falls = select_falls None None tt;
-        keeps = λ scope s right. then_keeps program locals (v scope s) _ (fv.keeps scope s right) (λ vs t right1.
-            selecting_keeps program n before locals (same_do (first vs)) (λ w scope1 s1 right2. (all_taken program n before locals identity 2).keeps (first vs ∷ w ∷ []) scope1 s1 right2) arms all fa other scope (λ u right2. fm.keeps scope u right2) t right1);
+        keeps = λ scope s right. then_keeps_words program locals (v scope s) _ (fv.keeps scope s right) (λ vs t right1 words.
+            selecting_keeps program n before locals (same_do (first vs)) (λ w word scope1 s1 right2. (all_taken program n before locals identity 2).keeps (first vs ∷ w ∷ []) (first_word vs words, (word, tt)) scope1 s1 right2) arms all fa other scope (λ u right2. fm.keeps scope u right2) t right1);
         runs = λ x place register s k holds fit right few.
             let m = machine_of program in
             let number = body_of program in
@@ -167,20 +167,20 @@ module _ (program : Program) (n before locals : ℕ) where
             let h1 = holds_back linked before body place value rest holds in
             let end : p1 + 1 + length chain ≡ q = omega (arith, length-append value rest) in
             let less = fv.falls scope s in
-            then_comes m number program locals n (standing number x place register s k) x x p1 q (v scope s) (λ vs t. choices.selecting (same_do (first vs)) all other scope t) (inside_self m number x)
+            then_words m number program locals n (standing number x place register s k) x x p1 q (v scope s) (λ vs t. choices.selecting (same_do (first vs)) all other scope t) (inside_self m number x)
             (fv.runs x place register s k (holds_front linked before body place value rest holds) fit right few) (omega (arith, less, few)) (fv.keeps scope s right)
-            (λ vs t j few1 right1. comes_behind m (standing number x p1 vs t j) (standing number (pushed (first vs) x) (p1 + 1) vs t j) _
+            (λ vs t j few1 right1 words. comes_behind m (standing number x p1 vs t j) (standing number (pushed (first vs) x) (p1 + 1) vs t j) _
             (stepped m number x p1 before vs t j (Plain instr.Push) chain h1)
-            (selecting_comes program n before locals by_identity (first vs ∷ []) (first vs ∷ []) (same_do (first vs)) (identity_compares (first vs)) x fit q arms all fa missed other fm (p1 + 1) vs t j h1.1 end right1 few1));
+            (selecting_comes program n before locals by_identity (first vs ∷ []) (first vs ∷ []) (same_do (first vs)) (identity_compares (first vs) (first_word vs words)) x fit q arms all fa missed other fm (p1 + 1) vs t j h1.1 end right1 few1));
       }
 
       test_follows : (test : Code) (t : Does) → Follows program n before locals test t
           → Follows program n before locals (value ++ (parts.waiting test ++ parts.selecting by_function arms missed)) (choices.select calls_do same_do v (Some t) all other)
       test_follows test t ft = record {
         falls = select_falls (Some test) (Some t) ft;
-        keeps = λ scope s right. then_keeps program locals (v scope s) _ (fv.keeps scope s right) (λ vs s1 right1.
-            then_keeps program locals (t scope s1) _ (ft.keeps scope s1 right1) (λ fs s2 right2.
-            selecting_keeps program n before locals (calls_do (first fs) (first vs)) (λ w scope1 s3 right3. takes.keeps (first fs ∷ first vs ∷ w ∷ []) scope1 s3 right3) arms all fa other scope (λ u right3. fm.keeps scope u right3) s2 right2));
+        keeps = λ scope s right. then_keeps_words program locals (v scope s) _ (fv.keeps scope s right) (λ vs s1 right1 words.
+            then_keeps_words program locals (t scope s1) _ (ft.keeps scope s1 right1) (λ fs s2 right2 words2.
+            selecting_keeps program n before locals (calls_do (first fs) (first vs)) (λ w word scope1 s3 right3. takes.keeps (first fs ∷ first vs ∷ w ∷ []) (first_word fs words2, (first_word vs words, (word, tt))) scope1 s3 right3) arms all fa other scope (λ u right3. fm.keeps scope u right3) s2 right2));
         runs = λ x place register s k holds fit right few.
             let m = machine_of program in
             let number = body_of program in
@@ -203,16 +203,16 @@ module _ (program : Program) (n before locals : ℕ) where
             let h4 = subst (λ (p : ℕ). Holds linked before body p chain) there (holds_back linked before body (p1 + 1) (test ++ lays) chain h1.1) in
             let end : p2 + 1 + 1 + 1 + length chain ≡ q = omega (arith, l1, l2, l3) in
             let less = fv.falls scope s in
-            then_comes m number program locals n (standing number x place register s k) x x p1 q (v scope s) (λ vs s1. and_then (t scope s1) (λ fs s2. choices.selecting (calls_do (first fs) (first vs)) all other scope s2)) (inside_self m number x)
+            then_words m number program locals n (standing number x place register s k) x x p1 q (v scope s) (λ vs s1. and_then (t scope s1) (λ fs s2. choices.selecting (calls_do (first fs) (first vs)) all other scope s2)) (inside_self m number x)
             (fv.runs x place register s k (holds_front linked before body place value rest holds) fit right few) (omega (arith, less, few)) (fv.keeps scope s right)
-            (λ vs s1 j few1 right1.
+            (λ vs s1 j few1 right1 words.
             let y = laid_aside vs x in
             let lower = ft.falls scope s1 in
             comes_behind m (standing number x p1 vs s1 j) (standing number y (p1 + 1) vs s1 j) _
             (stepped m number x p1 before vs s1 j (Plain instr.Save) ((test ++ lays) ++ chain) h1)
-            (then_comes m number program locals n (standing number y (p1 + 1) vs s1 j) y x p2 q (t scope s1) (λ fs s2. choices.selecting (calls_do (first fs) (first vs)) all other scope s2) (inside_aside m number vs x fit)
+            (then_words m number program locals n (standing number y (p1 + 1) vs s1 j) y x p2 q (t scope s1) (λ fs s2. choices.selecting (calls_do (first fs) (first vs)) all other scope s2) (inside_aside m number vs x fit)
             (ft.runs y (p1 + 1) vs s1 j (holds_front linked before body (p1 + 1) test lays h2) (fits_aside vs x.running x.running.rows fit) right1 few1) (omega (arith, lower, few1)) (ft.keeps scope s1 right1)
-            (λ fs s2 i few2 right2.
+            (λ fs s2 i few2 right2 words2.
             let f = first fs in
             let w = first vs in
             comes_behind m (standing number y p2 fs s2 i) (standing number (pushed f y) (p2 + 1) fs s2 i) _
@@ -221,7 +221,7 @@ module _ (program : Program) (n before locals : ℕ) where
             (stepped m number (pushed f y) (p2 + 1) before fs s2 i (Plain instr.Restore) (one instr.Push) h3.1)
             (comes_behind m (standing number (pushed f x) (p2 + 1 + 1) vs s2 i) (standing number (pushed w (pushed f x)) (p2 + 1 + 1 + 1) vs s2 i) _
             (stepped m number (pushed f x) (p2 + 1 + 1) before vs s2 i (Plain instr.Push) [] h3.1.1)
-            (selecting_comes program n before locals by_function (w ∷ f ∷ []) (f ∷ w ∷ []) (calls_do f w) (function_compares bound takes f w) x fit q arms all fa missed other fm (p2 + 1 + 1 + 1) vs s2 i h4 end right2 few2))))));
+            (selecting_comes program n before locals by_function (w ∷ f ∷ []) (f ∷ w ∷ []) (calls_do f w) (function_compares bound takes f w (first_word fs words2) (first_word vs words)) x fit q arms all fa missed other fm (p2 + 1 + 1 + 1) vs s2 i h4 end right2 few2))))));
       }
 
 pub select_follows : (program : Program) (n before locals bound : ℕ) (value : Code) (v : Does) (test : Option Code) (t : Option Does) (arms : List (List Code × Code)) (all : List (List Does × Does)) (last : Option Code) (l : Option Does)

@@ -3,22 +3,24 @@ use Rattle.std.proofs.Common.{◌≡◌, ℕ, Bool, true, not, ◌&&◌, List, [
 use Rattle.std.specs.Prelude.{flat_map, is_some}
 use Rattle.std.specs.Option.{option_map}
 use Rattle.dy_term.specs.declared.types.DyType.{DyType}
-use Rattle.dy_term.specs.declared.term.ForClause.{ForClause}
+use Rattle.dy_term.specs.declared.term.Limit.{Limit}
+use Rattle.dy_term.specs.declared.term.ForClause.{ForClause, ForClause-F, roll-ForClause}
 use Rattle.dy_term.specs.declared.term.Item.{Item, Item-F, roll-Item}
 use Rattle.dy_term.specs.declared.term.Term.{Term, Term-F, roll-Term}
 use Rattle.dy_term.specs.declared.term.BlockRow.{BlockRow}
-use Rattle.dy_term.specs.declared.term.ForRow.{ForRow}
+use Rattle.dy_term.specs.declared.term.ForRow.{ForRow, ForRow-F, roll-ForRow}
 use Rattle.dy_term.specs.declared.term.Lambda.{Lambda, Lambda-F, out-Lambda, roll-Lambda, roll-out-Lambda}
 use Rattle.dy_code.specs.Validity.{Every}
-use Rattle.dy_meaning.specs.Lambdas.{Inside, of_all, of_held, of_pairs, of_arms, itself_and, lambdas_in_item, lambdas_in, lambdas_within, of_defaults}
-use Rattle.dy_meaning.proofs.Induction.{by_terms, Clauses_with, Items_with, Terms_with, Blocks_with, Fors_with, Lambdas_with, item_of, term_of, lambda_of}
+use Rattle.dy_meaning.specs.Lambdas.{Inside, of_all, of_held, of_pairs, of_arms, of_second, itself_and, lambdas_in_clause, lambdas_in_for, lambdas_in_item, lambdas_in, lambdas_within, of_defaults}
+use Rattle.dy_meaning.proofs.Induction.{by_terms, Clauses_with, Items_with, Terms_with, Blocks_with, Fors_with, Lambdas_with, clause_of, item_of, term_of, for_of, lambda_of}
 use Rattle.dy_lowered.specs.Readiness.{all_ready, held_ready, are_distinct, with_rest}
 use Rattle.dy_lowering_law.specs.Ready.{has_no_keywords, is_empty}
 use Rattle.dy_lowered_valid.proofs.Evenness.{beside}
 use Rattle.dy_lowered_valid.proofs.Laying.{every_append}
 use Rattle.dy_lowered_valid.proofs.Sameness.{both_true, no}
-use Rattle.dy_lowering_whole.specs.Lowered.{is_lowered, is_item_lowered, is_lambda_lowered}
-use Rattle.dy_lowering_whole.proofs.Scoping.{lowered_layer, item_lowered_layer, lambda_lowered_layer, lowered_is, item_lowered_is, lambda_lowered_is, held_layer, item_held_layer, lambda_held_layer, held_is, item_held_is, lambda_held_is}
+use Rattle.dy_lowered_valid.proofs.Scopes.{clause_held, for_held, clause_held_is, for_held_is}
+use Rattle.dy_lowering_whole.specs.Lowered.{second_lowered, is_lowered, is_item_lowered, is_lambda_lowered}
+use Rattle.dy_lowering_whole.proofs.Scoping.{is_clause_lowered, is_for_lowered, clause_lowered_layer, for_lowered_layer, clause_lowered_is, for_lowered_is, lowered_layer, item_lowered_layer, lambda_lowered_layer, lowered_is, item_lowered_is, lambda_lowered_is, held_layer, item_held_layer, lambda_held_layer, held_is, item_held_is, lambda_held_is}
 
 abbrev pub IsLoweredOne : Lambda → Type 0
 IsLoweredOne lambda = is_lambda_lowered lambda ≡ true
@@ -30,7 +32,7 @@ join : (xs ys : List Lambda) → AllLowered xs → AllLowered ys → AllLowered 
 join xs ys a b = every_append IsLoweredOne xs ys a b
 
 abbrev C : ForClause → Type 0
-C x = Unit {0}
+C x = is_clause_lowered x ≡ true → AllLowered (lambdas_in_clause x)
 
 abbrev I : Item → Type 0
 I x = is_item_lowered x ≡ true → AllLowered (lambdas_in_item x)
@@ -42,7 +44,7 @@ abbrev K : BlockRow → Type 0
 K x = Unit {0}
 
 abbrev F : ForRow → Type 0
-F x = Unit {0}
+F x = is_for_lowered x ≡ true → AllLowered (lambdas_in_for x)
 
 abbrev L : Lambda → Type 0
 L x = is_lambda_lowered x ≡ true → AllLowered (lambdas_within x)
@@ -52,6 +54,12 @@ in_term x h e = subst AllLowered (sym (held_is x)) (h (sym (lowered_is x) ∙ e)
 
 in_item : (x : Item-F ForClause Item Term BlockRow ForRow Lambda) → (item_lowered_layer x ≡ true → AllLowered (item_held_layer x)) → I (roll-Item x)
 in_item x h e = subst AllLowered (sym (item_held_is x)) (h (sym (item_lowered_is x) ∙ e))
+
+in_clause : (x : ForClause-F ForClause Item Term BlockRow ForRow Lambda) → (clause_lowered_layer x ≡ true → AllLowered (clause_held x)) → C (roll-ForClause x)
+in_clause x h e = subst AllLowered (sym (clause_held_is x)) (h (sym (clause_lowered_is x) ∙ e))
+
+in_for : (x : ForRow-F ForClause Item Term BlockRow ForRow Lambda) → (for_lowered_layer x ≡ true → AllLowered (for_held x)) → F (roll-ForRow x)
+in_for x h e = subst AllLowered (sym (for_held_is x)) (h (sym (for_lowered_is x) ∙ e))
 
 in_lambda : (x : Lambda-F ForClause Item Term BlockRow ForRow Lambda) → (lambda_lowered_layer x ≡ true → AllLowered (lambda_held_layer x)) → L (roll-Lambda x)
 in_lambda x h e = subst AllLowered (sym (lambda_held_is x)) (h (sym (lambda_lowered_is x) ∙ e))
@@ -165,11 +173,68 @@ term_in (Term-F.Select v (Some t) ys None) = in_term _ (λ e. select_in v (Some 
 term_in (Term-F.Select v (Some t) ys (Some o)) = in_term _ (λ e. select_in v (Some t) ys (Some o) e)
 term_in (Term-F.Body ys) = in_term _ (λ e. items_in ys e)
 term_in (Term-F.Loop a b) = in_term _ (λ e. both_in a b e)
-term_in (Term-F.For y) = in_term _ (λ e. no e)
+term_in (Term-F.For y) = in_term _ (λ e. y.1 e)
 term_in (Term-F.Method y) = in_term _ (λ e. (e, y.1 e))
 term_in (Term-F.Block y) = in_term _ (λ e. no e)
 term_in (Term-F.Op operation ys) = in_term _ (λ e. terms_in ys e)
 term_in (Term-F.Next ys) = in_term _ (λ e. no e)
+
+-- loops
+module _ {A : Type 0} where
+  abbrev held_second : Option (A × A_term) → Option (A × Inside Term)
+  held_second y = option_map (λ (p : A × Term). (p.0, beside lambdas_in p.1)) (option_map (λ (p : A × A_term). (p.0, p.1.0)) y)
+
+  abbrev lowered_second : Option (A × A_term) → Bool
+  lowered_second y = second_lowered (option_map (λ (p : A × Term). (p.0, is_lowered p.1)) (option_map (λ (p : A × A_term). (p.0, p.1.0)) y))
+
+  second_inside : (y : Option (A × A_term)) → lowered_second y ≡ true → AllLowered (of_second (held_second y))
+  second_inside None e = tt
+  second_inside (Some y) e = y.1.1 e
+
+counts_in : (a : A_term) (y : Option (Limit × A_term)) (t : Option A_term) → (is_lowered a.0 && (lowered_second y && lowered_held t)) ≡ true → AllLowered (lambdas_in a.0 ++ of_second (held_second y) ++ of_held (held_held t))
+counts_in a y t e =
+    let p = both_true (is_lowered a.0) (lowered_second y && lowered_held t) e in
+    let q = both_true (lowered_second y) (lowered_held t) p.1 in
+    join (lambdas_in a.0 ++ of_second (held_second y)) (of_held (held_held t)) (join (lambdas_in a.0) (of_second (held_second y)) (a.1 p.0) (second_inside y q.0)) (held_in t q.1)
+
+abbrev A_clause : Type 0
+A_clause = Clauses_with C I T K F L
+
+clause_in : (y : ForClause-F A_clause An_item A_term (Blocks_with C I T K F L) (Fors_with C I T K F L) A_lambda) → C (clause_of C I T K F L y)
+clause_in (ForClause-F.Then local type a b) = in_clause _ (λ e. both_in a b e)
+clause_in (ForClause-F.In local type y) = in_clause _ (λ e. no e)
+clause_in (ForClause-F.From local type a None None) = in_clause _ (λ e. counts_in a None None e)
+clause_in (ForClause-F.From local type a None (Some t)) = in_clause _ (λ e. counts_in a None (Some t) e)
+clause_in (ForClause-F.From local type a (Some y) None) = in_clause _ (λ e. counts_in a (Some y) None e)
+clause_in (ForClause-F.From local type a (Some y) (Some t)) = in_clause _ (λ e. counts_in a (Some y) (Some t) e)
+
+abbrev clauses_of : List A_clause → List ForClause
+clauses_of ys = map (λ y. y.0) ys
+
+clauses_in : (ys : List A_clause) → all_ready (map is_clause_lowered (clauses_of ys)) ≡ true → AllLowered (of_all (map (beside lambdas_in_clause) (clauses_of ys)))
+clauses_in [] e = tt
+clauses_in (y ∷ ys) e =
+    let p = both_true (is_clause_lowered y.0) (all_ready (map is_clause_lowered (clauses_of ys))) e in
+    join (lambdas_in_clause y.0) (of_all (map (beside lambdas_in_clause) (clauses_of ys))) (y.1 p.0) (clauses_in ys p.1)
+
+turns_in : (cs : List A_clause) (t : Option (Bool × A_term)) (b : A_term) (o : Option A_term) → (all_ready (map is_clause_lowered (clauses_of cs)) && (lowered_second t && (is_lowered b.0 && lowered_held o))) ≡ true
+    → AllLowered (of_all (map (beside lambdas_in_clause) (clauses_of cs)) ++ of_second (held_second t) ++ lambdas_in b.0 ++ of_held (held_held o))
+turns_in cs t b o e =
+    let w = of_all (map (beside lambdas_in_clause) (clauses_of cs)) in
+    let x = of_second (held_second t) in
+    let p = both_true (all_ready (map is_clause_lowered (clauses_of cs))) (lowered_second t && (is_lowered b.0 && lowered_held o)) e in
+    let q = both_true (lowered_second t) (is_lowered b.0 && lowered_held o) p.1 in
+    let r = both_true (is_lowered b.0) (lowered_held o) q.1 in
+    join (w ++ x ++ lambdas_in b.0) (of_held (held_held o)) (join (w ++ x) (lambdas_in b.0) (join w x (clauses_in cs p.0) (second_inside t q.0)) (b.1 r.0)) (held_in o r.1)
+
+abbrev a_for : List A_clause → Option (Bool × A_term) → A_term → Option A_term → ForRow-F A_clause An_item A_term (Blocks_with C I T K F L) (Fors_with C I T K F L) A_lambda
+a_for cs t b o = record { clauses = cs; test = t; body = b; finally = o }
+
+for_in : (cs : List A_clause) (t : Option (Bool × A_term)) (b : A_term) (o : Option A_term) → F (for_of C I T K F L (a_for cs t b o))
+for_in cs None b None = in_for _ (λ e. turns_in cs None b None e)
+for_in cs None b (Some o) = in_for _ (λ e. turns_in cs None b (Some o) e)
+for_in cs (Some t) b None = in_for _ (λ e. turns_in cs (Some t) b None e)
+for_in cs (Some t) b (Some o) = in_for _ (λ e. turns_in cs (Some t) b (Some o) e)
 
 abbrev A_method : Type 0
 A_method = ℕ × A_lambda
@@ -207,7 +272,7 @@ lambda_in y = in_lambda _ (λ e.
     join _ (lambdas_in y.body.0) (keywords_in y.keywords q.0) (y.body.1 q.1))
 
 pub lowered_inside : (term : Term) → is_lowered term ≡ true → AllLowered (lambdas_in term)
-lowered_inside = by_terms C I T K F L (λ y. tt) item_in term_in (λ y. tt) (λ y. tt) lambda_in
+lowered_inside = by_terms C I T K F L clause_in item_in term_in (λ y. tt) (λ y. for_in y.clauses y.test y.body y.finally) lambda_in
 
 -- a lambda that is lowered yet
 pub record IsLoweredLambda (lambda : Lambda) : Type 0 where

@@ -1,11 +1,12 @@
 -- Calls stand in a program in scope that is lowered yet.
-use Rattle.std.proofs.Common.{◌≡◌, ℕ, ◌+◌, ◌-◌, ◌≤◌, Bool, true, ◌&&◌, List, [], ◌∷◌, ◌++◌, length, Option, Some, None, slice_get, refl, sym, ◌∙◌, subst, arith}
+use Rattle.std.proofs.Common.{◌≡◌, ℕ, ◌+◌, ◌-◌, ◌≤◌, Bool, true, ◌&&◌, List, [], ◌∷◌, ◌++◌, length, Option, Some, None, slice_get, refl, sym, ◌∙◌, subst, arith, ap}
 use Rattle.std.specs.Prelude.{flat_map}
 use Rattle.std.specs.List.{list_all}
 use Rattle.std.proofs.lemmas.Option.{none-some}
 use Rattle.dy_base.specs.declared.ids.GenericId.{GenericId}
 use Rattle.dy_term.specs.declared.term.Lambda.{Lambda, out-Lambda}
 use Rattle.dy_term.specs.declared.rows.ClassRow.{ClassRow}
+use Rattle.dy_term.specs.declared.rows.SlotRow.{SlotRow}
 use Rattle.dy_term.specs.declared.rows.Init.{Init}
 use Rattle.dy_term.specs.declared.rows.Init.TheVariants.{Each, Calling}
 use Rattle.dy_term.specs.declared.rows.GenericRow.{GenericRow}
@@ -44,7 +45,7 @@ use Rattle.dy_lowered_valid.proofs.Readying.{all_at, program_ok}
 use Rattle.dy_lowered_valid.proofs.Sameness.{both_true, no}
 use Rattle.dy_lowered_valid.proofs.Scopes.{IsBodyScoped, AreGood, good_lambdas, good_lambda}
 use Rattle.dy_lowered_valid.proofs.Securing.{scoped_bodies_hold}
-use Rattle.dy_lowering_whole.specs.Lowered.{is_lambda_lowered, is_code_lowered, is_function_lowered, is_top_lowered, is_library_lowered, IsLowered}
+use Rattle.dy_lowering_whole.specs.Lowered.{has_no_slots, is_lambda_lowered, is_code_lowered, is_function_lowered, is_top_lowered, is_library_lowered, IsLowered}
 use Rattle.dy_lowering_whole.proofs.Inner.{AllLowered, lowered_inside, lowered_lambda, lowered_within, within_is, defaults_none}
 use Rattle.dy_lowering_whole.proofs.Numbered.{Numbers, moved}
 use Rattle.dy_lowering_whole.proofs.Readied.{lowered_of_ready}
@@ -100,8 +101,18 @@ empty_is : {X : Type 0} (xs : List X) → is_empty xs ≡ true → xs ≡ []
 empty_is [] e = refl
 empty_is (x ∷ xs) e = no e
 
+-- classes without slots have no lambdas
+class_bare : (class : ClassRow) → has_no_slots class ≡ true → of_class class ≡ []
+class_bare class e = ap (λ (slots : List SlotRow). flat_map (λ (slot : SlotRow). of_init slot.init) slots) (empty_is class.slots e)
+
+classes_bare : (classes : List ClassRow) → list_all has_no_slots classes ≡ true → flat_map of_class classes ≡ []
+classes_bare [] e = refl
+classes_bare (class ∷ classes) e =
+    let p = both_true (has_no_slots class) (list_all has_no_slots classes) e in
+    (λ i. class_bare class p.0 i ++ classes_bare classes p.1 i)
+
 pub record IsFineLibrary (library : LibraryRow) : Type 0 where
-  pub classes : library.classes ≡ []
+  pub classes : of_classes library ≡ []
   pub generics : list_all generic_ready library.generics ≡ true
   pub methods : list_all method_lowered library.methods ≡ true
   pub variables : list_all variable_lowered library.variables ≡ true
@@ -115,11 +126,11 @@ fine_library library s k =
     let a = both_true (list_all (λ slot. is_init_scoped slot.init) (all_slots library)) (list_all method_scoped library.methods && (list_all variable_scoped library.variables && list_all is_top_scoped library.tops)) s in
     let b = both_true (list_all method_scoped library.methods) (list_all variable_scoped library.variables && list_all is_top_scoped library.tops) a.1 in
     let c = both_true (list_all variable_scoped library.variables) (list_all is_top_scoped library.tops) b.1 in
-    let p = both_true (is_empty library.classes) (list_all generic_ready library.generics && (list_all method_lowered library.methods && (list_all variable_lowered library.variables && list_all is_top_lowered library.tops))) k in
+    let p = both_true (list_all has_no_slots library.classes) (list_all generic_ready library.generics && (list_all method_lowered library.methods && (list_all variable_lowered library.variables && list_all is_top_lowered library.tops))) k in
     let q = both_true (list_all generic_ready library.generics) (list_all method_lowered library.methods && (list_all variable_lowered library.variables && list_all is_top_lowered library.tops)) p.1 in
     let r = both_true (list_all method_lowered library.methods) (list_all variable_lowered library.variables && list_all is_top_lowered library.tops) q.1 in
     let t = both_true (list_all variable_lowered library.variables) (list_all is_top_lowered library.tops) r.1 in
-    record { classes = empty_is library.classes p.0; generics = q.0; methods = r.0; variables = t.0; tops = t.1; scoped_methods = b.0; scoped_variables = c.0; scoped_tops = c.1 }
+    record { classes = classes_bare library.classes p.0; generics = q.0; methods = r.0; variables = t.0; tops = t.1; scoped_methods = b.0; scoped_variables = c.0; scoped_tops = c.1 }
 
 library_fine : (library : LibraryRow) → is_library_scoped library ≡ true → is_library_lowered library ≡ true → Every IsFine (of_library library)
 library_fine library s k =
@@ -129,7 +140,7 @@ library_fine library s k =
     let c = of_variables library in
     every_append IsFine (a ++ b ++ c) (flat_map of_top library.tops)
     (every_append IsFine (a ++ b) c
-    (every_append IsFine a b (subst (λ (classes : List ClassRow). Every IsFine (flat_map of_class classes)) (sym r.classes) tt)
+    (every_append IsFine a b (subst (λ (lambdas : List Lambda). Every IsFine lambdas) (sym r.classes) tt)
     (every_of IsFine of_method method_scoped method_lowered library.methods r.scoped_methods r.methods (λ m. code_fine m.code)))
     (every_of IsFine of_variable variable_scoped variable_lowered library.variables r.scoped_variables r.variables (λ v. function_fine v.function)))
     (every_of IsFine of_top is_top_scoped is_top_lowered library.tops r.scoped_tops r.tops top_fine)

@@ -1,5 +1,6 @@
 -- A program's code behaves as the program: form by form.
-use Rattle.std.proofs.Common.{◌≡◌, ℕ, suc, ◌+◌, ◌-◌, ◌≤◌, List, [], ◌∷◌, length, drop, None, refl, sym, ap, ◌∙◌, subst, arith, false}
+use Rattle.std.proofs.Common.{◌≡◌, ℕ, zero, suc, ◌+◌, ◌-◌, ◌≤◌, List, [], ◌∷◌, length, drop, None, refl, sym, ap, ◌∙◌, subst, arith, false}
+use Rattle.std.specs.Prelude.{replicate}
 use Rattle.std.proofs.lemmas.List.{length-replicate}
 use Rattle.std.specs.declared.option.Option.{Option}
 use Rattle.dy_base.specs.declared.ids.BindingId.{BindingId}
@@ -29,10 +30,12 @@ use Rattle.dy_steps.specs.Steps.{begin, next_task, defined, done, step, steps, n
 use Rattle.dy_lowered.specs.Flat.{Plain, one}
 use Rattle.dy_lowered.specs.Terms.{code_of}
 use Rattle.dy_lowering_law.specs.Behaving.{IsLeft, EndsAs, Behaves}
-use Rattle.dy_lowering_law.specs.Following.{Spot, standing, after, Comes, IsKnown, IsRight, IsRightAfter}
+use Rattle.dy_lowering_law.specs.Following.{Spot, standing, after, Comes, IsKnown, IsWordGlobal, AreWords, IsRight, IsRightAfter}
 use Rattle.dy_lowering_law.specs.Machines.{linked_program, machine_of}
 use Rattle.dy_lowering_law.specs.Renumbering.{body_of, renumbered, renumbered_store}
 use Rattle.dy_lowering_law.proofs.Arguments.{then_assoc}
+use Rattle.dy_lowering_law.proofs.Cases.{first_word, less_words}
+use Rattle.dy_lowering_law.proofs.Names.{words_set}
 use Rattle.dy_lowering_law.proofs.Leading.{steps_more, holds_front, holds_back, stepped}
 use Rattle.dy_lowering_whole.specs.Unexited.{IsNoExit}
 use Rattle.dy_lowering_whole.proofs.Calling.{no_term_exits}
@@ -48,9 +51,18 @@ globals_units : (names : List BindingId) (values : List Variant) (s : State) →
 globals_units [] values s = refl
 globals_units (name ∷ names) values s = globals_units names (drop 1 values) (with_global name (first values) s)
 
-globals_known : (program : Program) (names : List BindingId) (values : List Variant) (s : State) → Every (IsKnown program) s.store.objects → Every (IsKnown program) (with_globals names values s).store.objects
-globals_known program [] values s known = known
-globals_known program (name ∷ names) values s known = globals_known program names (drop 1 values) (with_global name (first values) s) known
+-- objects are known, and variables have values of 64 bits
+abbrev IsFit : Program → State → Type 0
+IsFit program s = Every (IsKnown program) s.store.objects × Every IsWordGlobal s.store.globals
+
+globals_known : (program : Program) (names : List BindingId) (values : List Variant) → AreWords values → (s : State) → IsFit program s → IsFit program (with_globals names values s)
+globals_known program [] values words s known = known
+globals_known program (name ∷ names) values words s known =
+    globals_known program names (drop 1 values) (less_words values words) (with_global name (first values) s) (known.0, words_set name (first values) (first_word values words) s.store.globals known.1)
+
+no_words : (count : ℕ) → AreWords (replicate count (Truth false))
+no_words zero = tt
+no_words (suc count) = (tt, no_words count)
 
 globals_frame : (names : List BindingId) (values : List Variant) (s : State) (frame : Frame) → with_globals names values (record s { frame = frame }) ≡ record (with_globals names values s) { frame = frame }
 globals_frame [] values s frame = refl
@@ -68,7 +80,7 @@ module _ (program : Program) (fuel : ℕ) where
   number = body_of program
 
   abbrev Known : State → Type 0
-  Known s = Every (IsKnown program) s.store.objects
+  Known s = IsFit program s
 
   -- a run from a step on ends as an outcome
   record Finishes (from : Step) (outcome : Outcome) : Type 0 where
@@ -89,10 +101,10 @@ module _ (program : Program) (fuel : ℕ) where
   -- where a body has come to its outcome, and its values go on
   outcome_finishes : (c : Config) (x : Spot) (place locals : ℕ) (frame : Frame) (o : Outcome) (go : List Variant → State → Outcome) → IsNoExit o → units_of o ≤ fuel → IsRightAfter program locals o
       → Comes m c (after number x place o)
-      → ((vs : List Variant) (v : State) (k : ℕ) → v.fuel.left ≤ fuel → Known v → Finishes (Goes (standing number x place vs v k)) (go vs (record v { frame = frame })))
+      → ((vs : List Variant) (v : State) (k : ℕ) → v.fuel.left ≤ fuel → Known v → AreWords vs → Finishes (Goes (standing number x place vs v k)) (go vs (record v { frame = frame })))
       → Finishes (Goes c) (and_then (back_to frame o) go)
   outcome_finishes c x place locals frame (Gave vs v) go stays few right comes next =
-      let f = next vs v comes.searches few right.objects in
+      let f = next vs v comes.searches few (right.0.objects, right.0.words.globals) right.1 in
       record { count = comes.count + f.count; ending = f.ending; ends = steps_more m comes.count f.count (Goes c) ∙ ap (steps m f.count) comes.there ∙ f.ends; same = f.same }
   outcome_finishes c x place locals frame (Exits block vs v) go stays few right comes next = absurd stays
   outcome_finishes c x place locals frame (Ended line v) go stays few right comes next =
@@ -118,7 +130,7 @@ module _ (program : Program) (fuel : ℕ) where
   -- it runs, and what was to be done with its values is done
   form_finishes : (term : Term) (l body : ℕ) → Form program body term l → (task : Task) (ts : List Task) (c : Config) (u : State) (frame : Frame) → c.state ≡ renumbered number u → Known u → u.fuel.left ≤ fuel
       → (go : List Variant → State → Outcome)
-      → ((place : ℕ) (vs : List Variant) (v : State) (k : ℕ) → v.fuel.left ≤ fuel → Known v → Finishes (done m task (standing number (spot body task ts) place vs v k)) (go vs (record v { frame = frame })))
+      → ((place : ℕ) (vs : List Variant) (v : State) (k : ℕ) → v.fuel.left ≤ fuel → Known v → AreWords vs → Finishes (done m task (standing number (spot body task ts) place vs v k)) (go vs (record v { frame = frame })))
       → Finishes (begin m body task ts c) (and_then (running_alone program fuel term l [] (record u { frame = frame })) go)
   form_finishes term l body form task ts c u frame e known few go next =
       let layout = layout_of_term term in
@@ -128,16 +140,16 @@ module _ (program : Program) (fuel : ℕ) where
       let x = spot body task ts in
       let s = new_frame locals [] u in
       let long : length s.frame.locals ≡ locals = length-replicate locals (Truth false) in
-      let right : IsRight program (locals - 0) s = record { objects = known; frame = omega (arith, long) } in
+      let right : IsRight program (locals - 0) s = record { objects = known.0; frame = omega (arith, long); words = record { locals = no_words locals; captured = tt; globals = known.1 } } in
       let o = meaning_within program fuel layout term l [] s in
       let falls = follows.falls [] s in
       let at = 0 + length code in
       let comes = follows.runs x 0 [] s c.searches (holds_front (linked_program program) form.before body 0 code (one Return) form.code) tt right few in
       let f = outcome_finishes (standing number x 0 [] s c.searches) x at (locals - 0) frame o go (no_term_exits program fuel layout term l [] s) (omega (arith, falls, few)) (follows.keeps [] s right) comes
-      (λ vs v k fewer knows.
+      (λ vs v k fewer knows words.
       behind_step (standing number x at vs v k) (done m task (standing number x (at + 1) vs v k)) (go vs (record v { frame = frame }))
       (stepped m number x at form.before vs v k (Plain Return) [] (holds_back (linked_program program) form.before body 0 code (one Return) form.code))
-      (next (at + 1) vs v k fewer knows)) in
+      (next (at + 1) vs v k fewer knows words)) in
       subst (λ (from : Step). Finishes from (and_then (back_to frame o) go)) (sym (form_begins term l body form task ts c u e)) f
 
   -- variables and constants take their values
@@ -159,19 +171,19 @@ module _ (program : Program) (fuel : ℕ) where
       subst (λ (t : Task). Finishes (next_task m (t ∷ ts) c) (and_then (top_does program fuel (tops.Run term) l [] (record u { frame = frame })) (others_do all))) (sym is.same)
       (subst (λ (o : Outcome). Finishes (begin m is.body (Runs is.body) ts c) o) (sym (then_assoc (running_alone program fuel term l [] (record u { frame = frame })) (λ vs s. Gave [] s) (others_do all)))
       (form_finishes term l is.body is.form (Runs is.body) ts c u frame e known few (λ vs s. in_order program fuel all [] s)
-      (λ place vs v k fewer knows. others (standing number (spot is.body (Runs is.body) ts) place vs v k) v refl knows fewer)))
+      (λ place vs v k fewer knows words. others (standing number (spot is.body (Runs is.body) ts) place vs v k) v refl knows fewer)))
   one_finishes (tops.Init bindings term) l task all ts frame is others c u e known few =
       let defines = Defines bindings is.body in
       subst (λ (t : Task). Finishes (next_task m (t ∷ ts) c) (and_then (top_does program fuel (tops.Init bindings term) l [] (record u { frame = frame })) (others_do all))) (sym is.same)
       (subst (λ (o : Outcome). Finishes (begin m is.body defines ts c) o) (sym (then_assoc (running_alone program fuel term l [] (record u { frame = frame })) (λ vs s. Gave [] (with_globals bindings vs s)) (others_do all)))
       (form_finishes term l is.body is.form defines ts c u frame e known few (λ vs s. in_order program fuel all [] (with_globals bindings vs s))
-      (λ place vs v k fewer knows.
+      (λ place vs v k fewer knows words.
       let d = standing number (spot is.body defines ts) place vs v k in
       let w = with_globals bindings vs v in
       let units = globals_units bindings vs v in
       subst (λ (from : Step). Finishes from (in_order program fuel all [] (with_globals bindings vs (record v { frame = frame })))) (sym (defined_is bindings vs d (λ d. next_task m d.tasks d)))
       (subst (λ (s : State). Finishes (next_task m ts (with_state (with_globals bindings vs d.state) d)) (in_order program fuel all [] s)) (sym (globals_frame bindings vs v frame))
-      (others (with_state (with_globals bindings vs d.state) d) w (globals_same number bindings vs v) (globals_known program bindings vs v knows) (omega (arith, units, fewer)))))))
+      (others (with_state (with_globals bindings vs d.state) d) w (globals_same number bindings vs v) (globals_known program bindings vs words v knows) (omega (arith, units, fewer)))))))
 
   all_finish : (all : List (TopTerm × ℕ)) (ts : List Task) (frame : Frame) → AreTasks program all ts → Others all ts frame
   all_finish [] [] frame h c u e known few = record {
@@ -188,7 +200,7 @@ module _ (program : Program) (fuel : ℕ) where
   unfolding program_meaning
   behaves are =
       let s = started fuel in
-      let f = all_finish (tops_of program) (tasks (linked_program program)) s.frame are (nothing_done fuel) s refl tt (omega arith) in
+      let f = all_finish (tops_of program) (tasks (linked_program program)) s.frame are (nothing_done fuel) s refl (tt, tt) (omega arith) in
       record { ending = f.ending; runs = record { count = f.count; ends = f.ends }; same = f.same }
 
 pub lowered_programs_behave : (program : Program) (fuel : ℕ) → IsScoped program → IsLowered program → Behaves program fuel

@@ -10,6 +10,7 @@ use Rattle.dy_term.specs.declared.term.Term.{Term, Term-F, roll-Term}
 use Rattle.dy_term.specs.declared.term.BlockRow.{BlockRow}
 use Rattle.dy_term.specs.declared.term.ForRow.{ForRow}
 use Rattle.dy_term.specs.declared.term.Lambda.{Lambda, out-Lambda, roll-out-Lambda}
+use Rattle.dy_term.specs.declared.rows.ClassRow.{ClassRow}
 use Rattle.dy_term.specs.declared.rows.MethodCode.{MethodCode}
 use Rattle.dy_term.specs.declared.rows.MethodCode.TheVariants.{Dylan}
 use Rattle.dy_term.specs.declared.rows.MethodRow.{MethodRow}
@@ -24,7 +25,7 @@ use Rattle.dy_meaning.proofs.Induction.{by_terms, Clauses_with, Items_with, Term
 use Rattle.dy_lowered.specs.Readiness.{all_ready, held_ready, is_set, is_own, are_distinct, are_bound, with_rest, is_ready, is_item_ready}
 use Rattle.dy_lowering_law.specs.Ready.{has_no_keywords, generic_ready, is_empty, lambda_ready, code_ready, function_ready, top_ready, library_ready, IsReady}
 use Rattle.dy_lowered_valid.proofs.Sameness.{both_true, and_true, no}
-use Rattle.dy_lowering_whole.specs.Lowered.{is_lowered, is_item_lowered, is_lambda_lowered, is_code_lowered, is_function_lowered, is_top_lowered, is_library_lowered, IsLowered}
+use Rattle.dy_lowering_whole.specs.Lowered.{has_no_slots, is_lowered, is_item_lowered, is_lambda_lowered, is_code_lowered, is_function_lowered, is_top_lowered, is_library_lowered, IsLowered}
 use Rattle.dy_lowering_whole.proofs.Layers.{ready_layer, item_ready_layer, ready_is, item_ready_is}
 use Rattle.dy_lowering_whole.proofs.Scoping.{lowered_layer, item_lowered_layer, lambda_lowered_layer, lowered_is, item_lowered_is, lambda_lowered_is}
 
@@ -136,7 +137,7 @@ module _ (first last : ℕ) where
       (and_true (lowered_held t) (lowered_arms ys && lowered_held o) (held_is t q.0) (and_true (lowered_arms ys) (lowered_held o) (arms_are ys r.0) (held_is o r.1)))
 
   term_is : (y : Term-F (Clauses_with C I T K F L) An_item A_term (Blocks_with C I T K F L) (Fors_with C I T K F L) (Lambdas_with C I T K F L)) → T (term_of C I T K F L y)
-  term_is (Term-F.Lit value) = from_term _ (λ e. refl)
+  term_is (Term-F.Lit value) = from_term _ (λ e. e)
   term_is (Term-F.Local local) = from_term _ (λ e. refl)
   term_is (Term-F.Global binding) = from_term _ (λ e. refl)
   term_is (Term-F.ClassName class) = from_term _ (λ e. refl)
@@ -224,6 +225,10 @@ method_lowered method = is_code_lowered method.code
 abbrev variable_lowered : VariableRow → Bool
 variable_lowered variable = is_function_lowered variable.function
 
+no_classes : (classes : List ClassRow) → is_empty classes ≡ true → list_all has_no_slots classes ≡ true
+no_classes [] e = refl
+no_classes (class ∷ classes) e = no e
+
 library_is : (library : LibraryRow) → library_ready library ≡ true → is_library_lowered library ≡ true
 library_is library e =
     let a = both_true (is_empty library.classes) (list_all generic_ready library.generics && (list_all method_ready library.methods && (list_all variable_ready library.variables && list_all top_ready library.tops))) e in
@@ -233,7 +238,7 @@ library_is library e =
     let tops_are = all_pass top_ready is_top_lowered library.tops d.1 top_is in
     let variables_are = and_true (list_all variable_lowered library.variables) (list_all is_top_lowered library.tops) (all_pass variable_ready variable_lowered library.variables d.0 (λ v. function_is v.function)) tops_are in
     let methods_are = and_true (list_all method_lowered library.methods) (list_all variable_lowered library.variables && list_all is_top_lowered library.tops) (all_pass method_ready method_lowered library.methods c.0 (λ m. code_is m.code)) variables_are in
-    and_true (is_empty library.classes) (list_all generic_ready library.generics && (list_all method_lowered library.methods && (list_all variable_lowered library.variables && list_all is_top_lowered library.tops))) a.0
+    and_true (list_all has_no_slots library.classes) (list_all generic_ready library.generics && (list_all method_lowered library.methods && (list_all variable_lowered library.variables && list_all is_top_lowered library.tops))) (no_classes library.classes a.0)
     (and_true (list_all generic_ready library.generics) (list_all method_lowered library.methods && (list_all variable_lowered library.variables && list_all is_top_lowered library.tops)) b.0 methods_are)
 
 pub lowered_of_ready : (program : Program) → IsReady program → IsLowered program

@@ -1,11 +1,11 @@
 -- Whether a layer of a term is in scope and lowered yet, and the lambdas inside of it, from its
 -- parts.
 use Rattle.std.proofs.Common.{◌≡◌, Bool, List}
-use Rattle.dy_term.specs.declared.term.ForClause.{ForClause, fold-ForClause}
+use Rattle.dy_term.specs.declared.term.ForClause.{ForClause, ForClause-F, roll-ForClause, map-ForClause, fold-ForClause, fold-roll-ForClause}
 use Rattle.dy_term.specs.declared.term.Item.{Item, Item-F, roll-Item, map-Item, para-roll-Item, fold-roll-Item}
 use Rattle.dy_term.specs.declared.term.Term.{Term, Term-F, roll-Term, map-Term, para-roll-Term, fold-roll-Term}
 use Rattle.dy_term.specs.declared.term.BlockRow.{BlockRow, fold-BlockRow}
-use Rattle.dy_term.specs.declared.term.ForRow.{ForRow, fold-ForRow}
+use Rattle.dy_term.specs.declared.term.ForRow.{ForRow, ForRow-F, roll-ForRow, map-ForRow, fold-ForRow, fold-roll-ForRow}
 use Rattle.dy_term.specs.declared.term.Lambda.{Lambda, Lambda-F, roll-Lambda, map-Lambda, para-roll-Lambda, fold-roll-Lambda}
 use Rattle.dy_meaning.specs.Lambdas.{item_lambdas, term_lambdas, lambda_lambdas, lambdas_in_clause, lambdas_in_item, lambdas_in, lambdas_in_block, lambdas_in_for, lambdas_within}
 use Rattle.dy_lowered_valid.specs.Scoped.{Scoping, item_scoped, term_scoped, is_clause_scoped, is_item_scoped, is_scoped, is_block_scoped, is_for_scoped, is_lambda_scoped}
@@ -38,6 +38,18 @@ lowered_layer x = term_lowered (map-Term _ _ _ _ _ _ _ _ _ _ _ _ is_clause_lower
 
 abbrev pub item_lowered_layer : Item-F ForClause Item Term BlockRow ForRow Lambda → Bool
 item_lowered_layer x = item_lowered (map-Item _ _ _ _ _ _ _ _ _ _ _ _ is_clause_lowered is_item_lowered is_lowered is_block_lowered is_for_lowered is_lambda_lowered x)
+
+abbrev pub clause_lowered_layer : ForClause-F ForClause Item Term BlockRow ForRow Lambda → Bool
+clause_lowered_layer x = clause_lowered (map-ForClause _ _ _ _ _ _ _ _ _ _ _ _ is_clause_lowered is_item_lowered is_lowered is_block_lowered is_for_lowered is_lambda_lowered x)
+
+abbrev pub for_lowered_layer : ForRow-F ForClause Item Term BlockRow ForRow Lambda → Bool
+for_lowered_layer x = for_lowered (map-ForRow _ _ _ _ _ _ _ _ _ _ _ _ is_clause_lowered is_item_lowered is_lowered is_block_lowered is_for_lowered is_lambda_lowered x)
+
+pub clause_lowered_is : (x : ForClause-F ForClause Item Term BlockRow ForRow Lambda) → is_clause_lowered (roll-ForClause x) ≡ clause_lowered_layer x
+clause_lowered_is = fold-roll-ForClause _ _ _ _ _ _ _ _ _ _ _ _
+
+pub for_lowered_is : (x : ForRow-F ForClause Item Term BlockRow ForRow Lambda) → is_for_lowered (roll-ForRow x) ≡ for_lowered_layer x
+for_lowered_is = fold-roll-ForRow _ _ _ _ _ _ _ _ _ _ _ _
 
 abbrev pub lambda_lowered_layer : Lambda-F ForClause Item Term BlockRow ForRow Lambda → Bool
 lambda_lowered_layer x = lambda_lowered (map-Lambda _ _ _ _ _ _ _ _ _ _ _ _ is_clause_lowered is_item_lowered is_lowered is_block_lowered is_for_lowered is_lambda_lowered x)

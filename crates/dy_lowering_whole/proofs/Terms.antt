@@ -1,6 +1,6 @@
 -- The machine follows each term in scope that is lowered yet, closures among them, by induction on
 -- terms.
-use Rattle.std.proofs.Common.{◌≡◌, ℕ, suc, ◌+◌, ◌-◌, Bool, true, ◌&&◌, List, [], ◌∷◌, ◌++◌, length, map, Option, Some, None, refl, sym, ap, ◌∙◌, subst, arith, length-append}
+use Rattle.std.proofs.Common.{◌≡◌, ℕ, suc, ◌+◌, ◌-◌, Bool, true, ◌&&◌, ℤ, List, [], ◌∷◌, ◌++◌, length, map, Option, Some, None, refl, sym, ap, ◌∙◌, subst, arith, length-append}
 use Rattle.std.specs.Prelude.{nat_lt, flat_map}
 use Rattle.std.specs.Option.{option_map}
 use Rattle.std.proofs.lemmas.Option.{same_Some, none-some}
@@ -8,30 +8,36 @@ use Rattle.dy_base.specs.declared.ids.BindingId.{BindingId}
 use Rattle.dy_base.specs.declared.ids.Ref.{Ref}
 use Rattle.dy_base.specs.declared.ids.What.{What}
 use Rattle.dy_base.specs.declared.ids.What.TheVariants as whats
+use Rattle.dy_term.specs.declared.literal.Literal.{Literal, Literal-F, roll-Literal, out-Literal, roll-out-Literal}
 use Rattle.dy_term.specs.declared.types.DyType.{DyType}
-use Rattle.dy_term.specs.declared.term.ForClause.{ForClause}
+use Rattle.dy_term.specs.declared.term.Limit.{Limit}
+use Rattle.dy_term.specs.declared.term.ForClause.{ForClause, ForClause-F, roll-ForClause}
 use Rattle.dy_term.specs.declared.term.Item.{Item, Item-F, roll-Item}
 use Rattle.dy_term.specs.declared.term.Term.{Term, Term-F, roll-Term, out-Term, roll-out-Term}
 use Rattle.dy_term.specs.declared.term.BlockRow.{BlockRow}
-use Rattle.dy_term.specs.declared.term.ForRow.{ForRow}
+use Rattle.dy_term.specs.declared.term.ForRow.{ForRow, ForRow-F, roll-ForRow}
 use Rattle.dy_term.specs.declared.term.Lambda.{Lambda}
 use Rattle.dy_term.specs.declared.rows.Program.{Program}
 use Rattle.dy_values.specs.declared.value.Variant.TheVariants.{Function}
 use Rattle.dy_outcome.specs.States.{Does, gave}
 use Rattle.dy_outcome.specs.Calls.{Calls, calls_within}
 use Rattle.dy_outcome.specs.Parts as means
+use Rattle.dy_outcome.specs.Turns as means_turns
+use Rattle.dy_outcome.specs.Turns.{fits}
 use Rattle.dy_code.specs.Fetching as instr
 use Rattle.dy_meaning.specs.Globals.{is_variable, read_variable, read_global}
-use Rattle.dy_meaning.specs.Lambdas.{Inside, of_all, of_pairs, of_arms, of_held, itself_and, lambdas_in, lambdas_in_item, lambdas_within, with_inner}
+use Rattle.dy_meaning.specs.Lambdas.{Inside, of_all, of_pairs, of_arms, of_held, of_second, itself_and, lambdas_in, lambdas_in_clause, lambdas_in_for, lambdas_in_item, lambdas_within, with_inner}
 use Rattle.dy_meaning.specs.Layouts.{Layout, place_of}
-use Rattle.dy_meaning.specs.Meaning.{calling, with_arguments, selecting_in, closing_of, item_meaning, meaning}
-use Rattle.dy_meaning.specs.Numbering.{Numbered, terms_from, behind_terms, items_from, branches_from, behind_branches, arms_from, behind_arms, held_from, behind_held}
+use Rattle.dy_meaning.specs.Meaning.{literal, no_number, calling, with_arguments, selecting_in, closing_of, clause_meaning, item_meaning, for_meaning, meaning}
+use Rattle.dy_meaning.specs.Numbering.{Numbered, terms_from, behind_terms, items_from, branches_from, behind_branches, arms_from, behind_arms, held_from, behind_held, clauses_from, behind_clauses, second_from, behind_second}
 use Rattle.dy_meaning.specs.Programs.{world, meaning_within}
-use Rattle.dy_meaning.proofs.Induction.{by_terms, Clauses_with, Items_with, Terms_with, Blocks_with, Fors_with, Lambdas_with, item_of, term_of}
+use Rattle.dy_meaning.proofs.Induction.{by_terms, Clauses_with, Items_with, Terms_with, Blocks_with, Fors_with, Lambdas_with, clause_of, item_of, term_of, for_of}
 use Rattle.dy_lowered.specs.Flat.{Code, one}
 use Rattle.dy_lowered.specs.Parts as parts
 use Rattle.dy_lowered.specs.Readiness.{all_ready, held_ready, is_set, is_own, with_rest, are_distinct, is_ready}
-use Rattle.dy_lowered.specs.Terms.{when_function, function_of, function_named, code_of, item_code}
+use Rattle.dy_lowered.specs.Turns as turns
+use Rattle.dy_lowered.specs.Words.{is_word}
+use Rattle.dy_lowered.specs.Terms.{when_function, function_of, function_named, number_in, number_of, known_or, amount, limit_from, step_from, code_of, item_code, clause_code, for_code}
 use Rattle.dy_lowering_law.specs.Behaving.{AreNumbered}
 use Rattle.dy_lowering_law.specs.Following.{Follows, Prepares}
 use Rattle.dy_lowering_law.specs.Kinds.{BranchesDo, AllDo, PartsDo}
@@ -47,15 +53,17 @@ use Rattle.dy_lowering_parts.proofs.Looping.{loop_follows}
 use Rattle.dy_lowering_parts.proofs.Selects.{select_follows}
 use Rattle.dy_lowering_calls.specs.Calls.{CallsStand}
 use Rattle.dy_lowering_calls.proofs.Taking as taking
-use Rattle.dy_lowered_valid.proofs.Evenness.{beside, term_layer, item_layer, term_is, item_is}
+use Rattle.dy_lowered_valid.proofs.Evenness.{beside, clause_layer, term_layer, item_layer, for_layer, clause_is, term_is, item_is, for_is}
 use Rattle.dy_lowered_valid.proofs.Sameness.{both_true, and_true, no}
-use Rattle.dy_lowering_whole.proofs.Layers.{item_meant_layer, term_meant_layer, item_meant, term_meant}
-use Rattle.dy_lowering_whole.specs.Lowered.{is_lowered, is_item_lowered}
-use Rattle.dy_lowering_whole.proofs.Scoping.{scope_layer, item_scope_layer, scope_is, item_scope_is, lowered_layer, item_lowered_layer, lowered_is, item_lowered_is, held_layer, item_held_layer, held_is, item_held_is}
+use Rattle.dy_lowering_whole.proofs.Layers.{clause_meant_layer, item_meant_layer, term_meant_layer, for_meant_layer, clause_meant, item_meant, term_meant, for_meant}
+use Rattle.dy_lowering_whole.specs.Lowered.{second_lowered, is_lowered, is_item_lowered}
+use Rattle.dy_lowering_whole.proofs.Scoping.{is_clause_lowered, is_for_lowered, clause_lowered_layer, for_lowered_layer, clause_lowered_is, for_lowered_is, scope_layer, item_scope_layer, scope_is, item_scope_is, lowered_layer, item_lowered_layer, lowered_is, item_lowered_is, held_layer, item_held_layer, held_is, item_held_is}
 use Rattle.dy_lowering_whole.proofs.Numbered.{Numbers as AreLaid, front, back, moved, first_one, behind_terms_is, behind_branches_is, behind_arms_is, behind_held_is}
-use Rattle.dy_lowered_valid.specs.Scoped.{Scoping, all_scoped, held_scoped, pairs_scoped, arms_scoped, methods_scoped, are_own, is_item_scoped, is_scoped, is_lambda_scoped}
+use Rattle.dy_lowered_valid.specs.Scoped.{Scoping, all_scoped, held_scoped, second_scoped, pairs_scoped, arms_scoped, methods_scoped, are_own, is_clause_scoped, is_for_scoped, is_item_scoped, is_scoped, is_lambda_scoped}
 use Rattle.dy_lowered_valid.proofs.Readying.{ready_scoped}
-use Rattle.dy_lowered_valid.proofs.Scopes.{at_layer}
+use Rattle.dy_lowered_valid.proofs.Scopes.{at_layer, clause_scope, for_scope, clause_scope_is, for_scope_is, clause_held, for_held, clause_held_is, for_held_is}
+use Rattle.dy_lowering_for.specs.Loops.{AmountDoes, LimitDoes, StepDoes, TestDoes, ClauseDoes, ClausesDo}
+use Rattle.dy_lowering_for.proofs.Fors.{fors_follow}
 use Rattle.dy_lowering_whole.proofs.Readied.{ready_lowered}
 use Rattle.dy_lowering_parts.specs.Closures.{Methods, StandThere, lambdas_among}
 use Rattle.dy_lowering_parts.proofs.Closing.{closing_follows, items_follow}
@@ -125,7 +133,7 @@ module _ (program : Program) (n before last : ℕ) (layout : Layout) (stand : Ca
   part_before (parts.Handles type code) q ps qs h rest = absurd h
 
   abbrev C : ForClause → Type 0
-  C x = Unit {0}
+  C x = (c l : ℕ) → is_clause_scoped x layout.first last ≡ true → is_clause_lowered x ≡ true → Numbers c l (lambdas_in_clause x) → ClauseDoes program n before locals (clause_code layout x c) (clause_meaning program calls layout x l)
 
   abbrev I : Item → Type 0
   I x = (c l : ℕ) → is_item_scoped x layout.first last ≡ true → is_item_lowered x ≡ true → Numbers c l (lambdas_in_item x) → PartDoes (item_code layout x c) (item_meaning program calls layout x l)
@@ -137,7 +145,7 @@ module _ (program : Program) (n before last : ℕ) (layout : Layout) (stand : Ca
   K x = Unit {0}
 
   abbrev F : ForRow → Type 0
-  F x = Unit {0}
+  F x = (c l : ℕ) → is_for_scoped x layout.first last ≡ true → is_for_lowered x ≡ true → Numbers c l (lambdas_in_for x) → Goes (for_code layout x c) (for_meaning program calls layout x l)
 
   abbrev L : Lambda → Type 0
   L x = Unit {0}
@@ -155,6 +163,20 @@ module _ (program : Program) (n before last : ℕ) (layout : Layout) (stand : Ca
       subst (λ (make : ℕ → parts.Part). PartDoes (make c) (item_meaning program calls layout (roll-Item x) l)) (sym (item_is layout x))
       (subst (λ (does : ℕ → means.Part). PartDoes (item_layer layout x c) (does l)) (sym (item_meant program calls layout x))
       (h c l (at_layer (is_item_scoped (roll-Item x)) (item_scope_layer x) layout.first last (item_scope_is x) s) (sym (item_lowered_is x) ∙ k) (subst (λ (xs : List Lambda). Numbers c l xs) (item_held_is x) are)))
+
+  follow_clause : (x : ForClause-F ForClause Item Term BlockRow ForRow Lambda)
+      → ((c l : ℕ) → clause_scope x layout.first last ≡ true → clause_lowered_layer x ≡ true → Numbers c l (clause_held x) → ClauseDoes program n before locals (clause_layer layout x c) (clause_meant_layer program calls layout x l)) → C (roll-ForClause x)
+  follow_clause x h c l s k are =
+      subst (λ (make : ℕ → turns.Clause). ClauseDoes program n before locals (make c) (clause_meaning program calls layout (roll-ForClause x) l)) (sym (clause_is layout x))
+      (subst (λ (does : ℕ → means_turns.Clause). ClauseDoes program n before locals (clause_layer layout x c) (does l)) (sym (clause_meant program calls layout x))
+      (h c l (at_layer (is_clause_scoped (roll-ForClause x)) (clause_scope x) layout.first last (clause_scope_is x) s) (sym (clause_lowered_is x) ∙ k) (subst (λ (xs : List Lambda). Numbers c l xs) (clause_held_is x) are)))
+
+  follow_for : (x : ForRow-F ForClause Item Term BlockRow ForRow Lambda)
+      → ((c l : ℕ) → for_scope x layout.first last ≡ true → for_lowered_layer x ≡ true → Numbers c l (for_held x) → Goes (for_layer layout x c) (for_meant_layer program calls layout x l)) → F (roll-ForRow x)
+  follow_for x h c l s k are =
+      subst (λ (make : ℕ → Code). Goes (make c) (for_meaning program calls layout (roll-ForRow x) l)) (sym (for_is layout x))
+      (subst (λ (does : ℕ → Does). Goes (for_layer layout x c) (does l)) (sym (for_meant program calls layout x))
+      (h c l (at_layer (is_for_scoped (roll-ForRow x)) (for_scope x) layout.first last (for_scope_is x) s) (sym (for_lowered_is x) ∙ k) (subst (λ (xs : List Lambda). Numbers c l xs) (for_held_is x) are)))
 
   abbrev A_term : Type 0
   A_term = Terms_with C I T K F L
@@ -361,6 +383,191 @@ module _ (program : Program) (n before last : ℕ) (layout : Layout) (stand : Ca
       (arms_do ys c2 l2 r.0 g.0 (moved program before z (c + length (w ++ x)) c2 (l + length (w ++ x)) l2 (omega (arith, long2, at_c2)) (omega (arith, long2, at_l2)) (back program before (w ++ x) z c l three)))
       (held_do o c3 l3 r.1 g.1 (moved program before h (c + length (w ++ x ++ z)) c3 (l + length (w ++ x ++ z)) l3 (omega (arith, long2, long3, at_c2, at_c3)) (omega (arith, long2, long3, at_l2, at_l3)) (back program before (w ++ x ++ z) h c l are)))
 
+  -- a number that is a literal
+  kind_is : (kind : Literal-F Literal) (z : ℤ) → number_in kind ≡ Some z → kind ≡ Literal-F.Int z
+  kind_is (Literal-F.Int number) z e = ap (λ (i : ℤ). Literal-F.Int i) (same_Some number z e)
+  kind_is kind z e = absurd (none-some z e)
+
+  layer_number : (x : Term-F ForClause Item Term BlockRow ForRow Lambda) (z : ℤ) (l : ℕ) → number_of x ≡ Some z → term_meant_layer program calls layout x l ≡ literal (roll-Literal (Literal-F.Int z))
+  layer_number (Term-F.Lit value) z l e = ap literal (sym (roll-out-Literal value) ∙ ap roll-Literal (kind_is (out-Literal value) z e))
+  layer_number x z l e = absurd (none-some z e)
+
+  layer_fits : (x : Term-F ForClause Item Term BlockRow ForRow Lambda) (z : ℤ) → number_of x ≡ Some z → lowered_layer x ≡ true → fits z ≡ true
+  layer_fits (Term-F.Lit value) z e k = sym (ap (λ (kind : Literal-F Literal). is_word kind) (kind_is (out-Literal value) z e)) ∙ k
+  layer_fits x z e k = absurd (none-some z e)
+
+  amount_by : (known : Option ℤ) (t : Term) (c l : ℕ) → number_of (out-Term t) ≡ known → is_lowered t ≡ true → Goes (coded t c) (meant t l) → AmountDoes program n before locals (known_or known (coded t c)) (meant t l)
+  amount_by None t c l e k goes = goes
+  amount_by (Some z) t c l e k goes = (
+    layer_fits (out-Term t) z e (sym (lowered_is (out-Term t)) ∙ ap is_lowered (roll-out-Term t) ∙ k),
+    ap (λ (u : Term). meant u l) (sym (roll-out-Term t)) ∙ ap (λ (does : ℕ → Does). does l) (term_meant program calls layout (out-Term t)) ∙ layer_number (out-Term t) z l e,
+  )
+
+  amount_does : (y : A_term) (c l : ℕ) → is_scoped y.0 layout.first last ≡ true → is_lowered y.0 ≡ true → Numbers c l (lambdas_in y.0) → AmountDoes program n before locals (amount (beside coded y.0) c) (meant y.0 l)
+  amount_does y c l s k are = amount_by (number_of (out-Term y.0)) y.0 c l refl k (y.1 c l s k are)
+
+  -- a term with what stands before it
+  module _ {A : Type 0} where
+    abbrev second_in : Option (A × A_term) → Option (A × Term)
+    second_in y = option_map (λ (p : A × A_term). (p.0, p.1.0)) y
+
+    abbrev coded_second : Option (A × A_term) → Option (A × Numbered Term Code)
+    coded_second y = option_map (λ (p : A × Term). (p.0, beside coded p.1)) (second_in y)
+
+    abbrev meant_second : Option (A × A_term) → Option (A × Numbered Term Does)
+    meant_second y = option_map (λ (p : A × Term). (p.0, beside meant p.1)) (second_in y)
+
+    abbrev held_second : Option (A × A_term) → List Lambda
+    held_second y = of_second (option_map (λ (p : A × Term). (p.0, beside lambdas_in p.1)) (second_in y))
+
+    abbrev scoped_second : Option (A × A_term) → Bool
+    scoped_second y = second_scoped (option_map (λ (p : A × Term). (p.0, is_scoped p.1)) (second_in y)) layout.first last
+
+    abbrev lowered_second : Option (A × A_term) → Bool
+    lowered_second y = second_lowered (option_map (λ (p : A × Term). (p.0, is_lowered p.1)) (second_in y))
+
+    behind_coded : (y : Option (A × A_term)) (c : ℕ) → behind_second (coded_second y) c ≡ c + length (held_second y)
+    behind_coded None c = omega arith
+    behind_coded (Some y) c = refl
+
+    behind_meant : (y : Option (A × A_term)) (l : ℕ) → behind_second (meant_second y) l ≡ l + length (held_second y)
+    behind_meant None l = omega arith
+    behind_meant (Some y) l = refl
+
+  limit_does : (y : Option (Limit × A_term)) (c l : ℕ) → scoped_second y ≡ true → lowered_second y ≡ true → Numbers c l (held_second y) → LimitDoes program n before locals (limit_from (coded_second y) c) (second_from (meant_second y) l)
+  limit_does None c l s k are = tt
+  limit_does (Some y) c l s k are = (refl, amount_does y.1 c l s k are)
+
+  step_does : (y : Option A_term) (c l : ℕ) → scoped_held y ≡ true → lowered_held y ≡ true → Numbers c l (held_held y) → StepDoes program n before locals (step_from (coded_held y) c) (held_from (meant_held y) l)
+  step_does None c l s k are = refl
+  step_does (Some y) c l s k are = step_is (amount (beside coded y.0) c) (meant y.0 l) (amount_does y c l s k are)
+    where
+      step_is : (code : turns.Amount) (does : Does) → AmountDoes program n before locals code does → StepDoes program n before locals code (Some does)
+      step_is (turns.Known number) does is = is
+      step_is (turns.Given code) does is = is
+
+  test_does : (y : Option (Bool × A_term)) (c l : ℕ) → scoped_second y ≡ true → lowered_second y ≡ true → Numbers c l (held_second y) → TestDoes program n before locals (second_from (coded_second y) c) (second_from (meant_second y) l)
+  test_does None c l s k are = tt
+  test_does (Some y) c l s k are = (refl, y.1.1 c l s k are)
+
+  -- a clause that counts
+  counts_do : (local : ℕ) (a : A_term) (y : Option (Limit × A_term)) (t : Option A_term) (c l : ℕ)
+      → (is_own layout.first last local && (is_scoped a.0 layout.first last && (scoped_second y && scoped_held t))) ≡ true
+      → (is_lowered a.0 && (lowered_second y && lowered_held t)) ≡ true → Numbers c l (lambdas_in a.0 ++ held_second y ++ held_held t)
+      → ClauseDoes program n before locals
+      (turns.Counts (place_of layout local) (coded a.0 c) (limit_from (coded_second y) (c + length (lambdas_in a.0))) (step_from (coded_held t) (behind_second (coded_second y) (c + length (lambdas_in a.0)))))
+      (means_turns.Counts (place_of layout local) (meant a.0 l) (second_from (meant_second y) (l + length (lambdas_in a.0))) (held_from (meant_held t) (behind_second (meant_second y) (l + length (lambdas_in a.0)))))
+  counts_do local a y t c l s k are =
+      let p = both_true (is_own layout.first last local) (is_scoped a.0 layout.first last && (scoped_second y && scoped_held t)) s in
+      let q = both_true (is_scoped a.0 layout.first last) (scoped_second y && scoped_held t) p.1 in
+      let r = both_true (scoped_second y) (scoped_held t) q.1 in
+      let e = both_true (is_lowered a.0) (lowered_second y && lowered_held t) k in
+      let f = both_true (lowered_second y) (lowered_held t) e.1 in
+      let w = lambdas_in a.0 in
+      let x = held_second y in
+      let z = held_held t in
+      let c1 = c + length w in
+      let l1 = l + length w in
+      let c2 = behind_second (coded_second y) c1 in
+      let l2 = behind_second (meant_second y) l1 in
+      let long = length-append w x in
+      let two = front program before (w ++ x) z c l are in (
+        refl,
+        own_at layout last local p.0,
+        a.1 c l q.0 e.0 (front program before w x c l two),
+        limit_does y c1 l1 r.0 f.0 (back program before w x c l two),
+        step_does t c2 l2 r.1 f.1 (moved program before z (c + length (w ++ x)) c2 (l + length (w ++ x)) l2 (omega (arith, long, behind_coded y c1)) (omega (arith, long, behind_meant y l1)) (back program before (w ++ x) z c l are)),
+      )
+
+  abbrev A_clause : Type 0
+  A_clause = Clauses_with C I T K F L
+
+  abbrev clauses_of : List A_clause → List ForClause
+  clauses_of ys = map (λ y. y.0) ys
+
+  abbrev coded_clauses : List A_clause → List (Numbered ForClause turns.Clause)
+  coded_clauses ys = map (beside (clause_code layout)) (clauses_of ys)
+
+  abbrev meant_clauses : List A_clause → List (Numbered ForClause means_turns.Clause)
+  meant_clauses ys = map (beside (clause_meaning program calls layout)) (clauses_of ys)
+
+  abbrev held_clauses : List A_clause → List Lambda
+  held_clauses ys = of_all (map (beside lambdas_in_clause) (clauses_of ys))
+
+  clauses_do : (ys : List A_clause) (c l : ℕ) → all_scoped (map is_clause_scoped (clauses_of ys)) layout.first last ≡ true → all_ready (map is_clause_lowered (clauses_of ys)) ≡ true → Numbers c l (held_clauses ys)
+      → ClausesDo program n before locals (clauses_from (coded_clauses ys) c) (clauses_from (meant_clauses ys) l)
+  clauses_do [] c l s k are = tt
+  clauses_do (y ∷ ys) c l s k are =
+      let p = both_true (is_clause_scoped y.0 layout.first last) (all_scoped (map is_clause_scoped (clauses_of ys)) layout.first last) s in
+      let q = both_true (is_clause_lowered y.0) (all_ready (map is_clause_lowered (clauses_of ys))) k in
+      let inner = lambdas_in_clause y.0 in
+      let count = length inner in
+      (y.1 c l p.0 q.0 (front program before inner (held_clauses ys) c l are), clauses_do ys (c + count) (l + count) p.1 q.1 (back program before inner (held_clauses ys) c l are))
+
+  behind_clauses_coded : (ys : List A_clause) (c : ℕ) → behind_clauses (coded_clauses ys) c ≡ c + length (held_clauses ys)
+  behind_clauses_coded [] c = omega arith
+  behind_clauses_coded (y ∷ ys) c =
+      let rest = behind_clauses_coded ys (c + length (lambdas_in_clause y.0)) in
+      omega (arith, rest, length-append (lambdas_in_clause y.0) (held_clauses ys))
+
+  behind_clauses_meant : (ys : List A_clause) (c : ℕ) → behind_clauses (meant_clauses ys) c ≡ c + length (held_clauses ys)
+  behind_clauses_meant [] c = omega arith
+  behind_clauses_meant (y ∷ ys) c =
+      let rest = behind_clauses_meant ys (c + length (lambdas_in_clause y.0)) in
+      omega (arith, rest, length-append (lambdas_in_clause y.0) (held_clauses ys))
+
+  -- a loop
+  loop_does : (ys : List A_clause) (t : Option (Bool × A_term)) (b : A_term) (o : Option A_term) (c l : ℕ)
+      → (all_scoped (map is_clause_scoped (clauses_of ys)) layout.first last && (scoped_second t && (is_scoped b.0 layout.first last && scoped_held o))) ≡ true
+      → (all_ready (map is_clause_lowered (clauses_of ys)) && (lowered_second t && (is_lowered b.0 && lowered_held o))) ≡ true
+      → Numbers c l (held_clauses ys ++ held_second t ++ lambdas_in b.0 ++ held_held o)
+      → Goes (turns.for_loop (clauses_from (coded_clauses ys) c) (second_from (coded_second t) (behind_clauses (coded_clauses ys) c)) (coded b.0 (behind_second (coded_second t) (behind_clauses (coded_clauses ys) c)))
+      (held_from (coded_held o) (behind_second (coded_second t) (behind_clauses (coded_clauses ys) c) + length (lambdas_in b.0))))
+      (means_turns.for_loop (no_number calls) (clauses_from (meant_clauses ys) l) (second_from (meant_second t) (behind_clauses (meant_clauses ys) l)) (meant b.0 (behind_second (meant_second t) (behind_clauses (meant_clauses ys) l)))
+      (held_from (meant_held o) (behind_second (meant_second t) (behind_clauses (meant_clauses ys) l) + length (lambdas_in b.0))))
+  loop_does ys t b o c l s k are =
+      let p = both_true (all_scoped (map is_clause_scoped (clauses_of ys)) layout.first last) (scoped_second t && (is_scoped b.0 layout.first last && scoped_held o)) s in
+      let q = both_true (scoped_second t) (is_scoped b.0 layout.first last && scoped_held o) p.1 in
+      let r = both_true (is_scoped b.0 layout.first last) (scoped_held o) q.1 in
+      let e = both_true (all_ready (map is_clause_lowered (clauses_of ys))) (lowered_second t && (is_lowered b.0 && lowered_held o)) k in
+      let f = both_true (lowered_second t) (is_lowered b.0 && lowered_held o) e.1 in
+      let g = both_true (is_lowered b.0) (lowered_held o) f.1 in
+      let w = held_clauses ys in
+      let x = held_second t in
+      let z = lambdas_in b.0 in
+      let h = held_held o in
+      let c1 = behind_clauses (coded_clauses ys) c in
+      let l1 = behind_clauses (meant_clauses ys) l in
+      let c2 = behind_second (coded_second t) c1 in
+      let l2 = behind_second (meant_second t) l1 in
+      let c3 = c2 + length z in
+      let l3 = l2 + length z in
+      let at_c1 = behind_clauses_coded ys c in
+      let at_l1 = behind_clauses_meant ys l in
+      let at_c2 = behind_coded t c1 in
+      let at_l2 = behind_meant t l1 in
+      let long2 = length-append w x in
+      let long3 = length-append (w ++ x) z in
+      let three = front program before (w ++ x ++ z) h c l are in
+      let two = front program before (w ++ x) z c l three in
+      fors_follow program n before locals n (clauses_from (coded_clauses ys) c) (clauses_from (meant_clauses ys) l) (second_from (coded_second t) c1) (second_from (meant_second t) l1) (coded b.0 c2) (meant b.0 l2)
+      (held_from (coded_held o) c3) (held_from (meant_held o) l3) (clauses_do ys c l p.0 e.0 (front program before w x c l two))
+      (test_does t c1 l1 q.0 f.0 (moved program before x (c + length w) c1 (l + length w) l1 (omega (arith, at_c1)) (omega (arith, at_l1)) (back program before w x c l two)))
+      (b.1 c2 l2 r.0 g.0 (moved program before z (c + length (w ++ x)) c2 (l + length (w ++ x)) l2 (omega (arith, long2, at_c1, at_c2)) (omega (arith, long2, at_l1, at_l2)) (back program before (w ++ x) z c l three)))
+      (held_do o c3 l3 r.1 g.1 (moved program before h (c + length (w ++ x ++ z)) c3 (l + length (w ++ x ++ z)) l3 (omega (arith, long2, long3, at_c1, at_c2)) (omega (arith, long2, long3, at_l1, at_l2)) (back program before (w ++ x ++ z) h c l are)))
+
+  abbrev A_for_row : Type 0
+  A_for_row = ForRow-F A_clause An_item A_term (Blocks_with C I T K F L) (Fors_with C I T K F L) A_lambda
+
+  abbrev a_for : List A_clause → Option (Bool × A_term) → A_term → Option A_term → A_for_row
+  a_for cs t b o = record { clauses = cs; test = t; body = b; finally = o }
+
+  for_by : (cs : List A_clause) (t : Option (Bool × A_term)) (b : A_term) (o : Option A_term) → F (for_of C I T K F L (a_for cs t b o))
+  for_by cs None b None = follow_for _ (λ c l s k are. loop_does cs None b None c l s k are)
+  for_by cs None b (Some o) = follow_for _ (λ c l s k are. loop_does cs None b (Some o) c l s k are)
+  for_by cs (Some t) b None = follow_for _ (λ c l s k are. loop_does cs (Some t) b None c l s k are)
+  for_by cs (Some t) b (Some o) = follow_for _ (λ c l s k are. loop_does cs (Some t) b (Some o) c l s k are)
+
   -- two terms one after the other
   abbrev Both : Term → Term → ℕ → ℕ → Type 0
   Both a b c l = Goes (coded a c) (meant a l) × Goes (coded b (c + length (lambdas_in a))) (meant b (l + length (lambdas_in a)))
@@ -373,7 +580,7 @@ module _ (program : Program) (n before last : ℕ) (layout : Layout) (stand : Ca
       (a.1 c l p.0 q.0 (front program before (lambdas_in a.0) (lambdas_in b.0) c l are), b.1 (c + count) (l + count) p.1 q.1 (back program before (lambdas_in a.0) (lambdas_in b.0) c l are))
 
   term_follows : (y : Term-F (Clauses_with C I T K F L) An_item A_term (Blocks_with C I T K F L) (Fors_with C I T K F L) A_lambda) → T (term_of C I T K F L y)
-  term_follows (Term-F.Lit value) = follow_term _ (λ c l s k are. literal_follows program n before locals value)
+  term_follows (Term-F.Lit value) = follow_term _ (λ c l s k are. literal_follows program n before locals value k)
   term_follows (Term-F.Local local) = follow_term _ (λ c l s k are. read_follows program n before locals (place_of layout local))
   term_follows (Term-F.Global binding) = follow_term _ (λ c l s k are. global_follows binding.what binding.at s)
   term_follows (Term-F.ClassName class) = follow_term _ (λ c l s k are. (names_follow program n before locals).classes class)
@@ -421,7 +628,7 @@ module _ (program : Program) (n before last : ℕ) (layout : Layout) (stand : Ca
       let count = length (lambdas_in a.0) in
       let p = both_do a b c l s k are in
       loop_follows program n before locals (coded a.0 c) (coded b.0 (c + count)) (meant a.0 l) (meant b.0 (l + count)) p.0 p.1)
-  term_follows (Term-F.For y) = follow_term _ (λ c l s k are. no k)
+  term_follows (Term-F.For y) = follow_term _ (λ c l s k are. y.1 c l s k are)
   term_follows (Term-F.Method y) = follow_term _ (λ c l s k are. closing_follows program n before locals c (closing_of layout y.0 l) (first_one program before y.0 (lambdas_within y.0) c l are))
   term_follows (Term-F.Block y) = follow_term _ (λ c l s k are. no k)
   term_follows (Term-F.Op operation ys) = follow_term _ (λ c l s k are.
@@ -466,8 +673,19 @@ module _ (program : Program) (n before last : ℕ) (layout : Layout) (stand : Ca
       items_follow program n before locals l c layout (methods_of ys) (methods_there ys s) (subst (λ (xs : List Lambda). Numbers c l xs) (methods_held ys) are))
   item_follows (Item-F.Handler type y) = follow_item _ (λ c l s k are. no k)
 
+  clause_follows : (y : ForClause-F A_clause An_item A_term (Blocks_with C I T K F L) (Fors_with C I T K F L) A_lambda) → C (clause_of C I T K F L y)
+  clause_follows (ForClause-F.Then local type a b) = follow_clause _ (λ c l s k are.
+      let p = both_true (is_own layout.first last local) (is_scoped a.0 layout.first last && is_scoped b.0 layout.first last) s in
+      let q = both_do a b c l p.1 k are in
+      (refl, own_at layout last local p.0, q.0, q.1))
+  clause_follows (ForClause-F.In local type y) = follow_clause _ (λ c l s k are. no k)
+  clause_follows (ForClause-F.From local type a None None) = follow_clause _ (λ c l s k are. counts_do local a None None c l s k are)
+  clause_follows (ForClause-F.From local type a None (Some t)) = follow_clause _ (λ c l s k are. counts_do local a None (Some t) c l s k are)
+  clause_follows (ForClause-F.From local type a (Some y) None) = follow_clause _ (λ c l s k are. counts_do local a (Some y) None c l s k are)
+  clause_follows (ForClause-F.From local type a (Some y) (Some t)) = follow_clause _ (λ c l s k are. counts_do local a (Some y) (Some t) c l s k are)
+
   pub all_follow : (term : Term) → T term
-  all_follow = by_terms C I T K F L (λ y. tt) item_follows term_follows (λ y. tt) (λ y. tt) (λ y. tt)
+  all_follow = by_terms C I T K F L clause_follows item_follows term_follows (λ y. tt) (λ y. for_by y.clauses y.test y.body y.finally) (λ y. tt)
 
 pub lowered_terms_follow : (program : Program) (n before closure lambda last : ℕ) (layout : Layout) (term : Term) → CallsStand program n → is_scoped term layout.first last ≡ true → is_lowered term ≡ true → AreNumbered program before closure lambda term
     → Follows program n before (last - layout.first) (code_of layout term closure) (meaning_within program n layout term lambda)

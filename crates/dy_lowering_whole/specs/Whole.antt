@@ -1,5 +1,5 @@
 -- The theorem for terms, from that for their kinds, and for whole programs.
-use Rattle.std.specs.Prelude.{◌≡◌, ℕ, ◌-◌, true}
+use Rattle.std.specs.Prelude.{◌≡◌, ℕ, ◌-◌, true, [], ◌∷◌}
 use Rattle.dy_term.specs.declared.term.Term.{Term}
 use Rattle.dy_term.specs.declared.rows.Program.{Program}
 use Rattle.dy_meaning.specs.Layouts.{Layout}
@@ -10,6 +10,7 @@ use Rattle.dy_lowering_law.specs.Behaving.{AreNumbered, TermsFollow, Behaves}
 use Rattle.dy_lowering_law.specs.Following.{Follows}
 use Rattle.dy_lowering_law.specs.Ready.{IsReady}
 use Rattle.dy_lowering_calls.specs.Calls.{CallsStand}
+use Rattle.dy_prims.specs.Rows.{dylan_row, io_row}
 use Rattle.dy_lowered_valid.specs.Scoped.{is_scoped, IsScoped}
 use Rattle.dy_lowering_whole.specs.Lowered.{is_lowered, IsLowered}
 
@@ -46,3 +47,9 @@ LoweredCallsStand = (program : Program) → IsScoped program → IsLowered progr
 abbrev pub LoweredProgramsBehave : Type 0
 LoweredProgramsBehave = (program : Program) (fuel : ℕ) → IsScoped program → IsLowered program
     → Behaves program fuel
+
+-- The libraries that are built in are of this kind.
+abbrev pub BuiltInAreLowered : Type 0
+BuiltInAreLowered =
+    let program : Program = record { libraries = dylan_row ∷ io_row ∷ [] } in
+    IsScoped program × IsLowered program

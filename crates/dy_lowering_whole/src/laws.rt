@@ -5,6 +5,7 @@ ghost use Rattle.dy_lowering_whole.specs.Unexited.{NoTermExits};
 ghost use Rattle.dy_lowering_whole.specs.Whole.{ReadyTermsFollow, ReadyCallsStand};
 ghost use Rattle.dy_lowering_whole.specs.Whole.{AllTermsFollow, LoweredTermsFollow};
 ghost use Rattle.dy_lowering_whole.specs.Whole.{LoweredCallsStand, LoweredProgramsBehave};
+ghost use Rattle.dy_lowering_whole.specs.Whole.{BuiltInAreLowered};
 
 /// What holds of programs that are lowered.
 pub fn whole_laws()
@@ -14,6 +15,8 @@ pub fn whole_laws()
     ensures lowered_calls { LoweredCallsStand }
     // With every fuel their code behaves as they do.
     ensures lowered_programs { LoweredProgramsBehave }
+    // The libraries that are built in are such.
+    ensures built_in { BuiltInAreLowered }
     // No term leaves a block.
     ensures exits { NoTermExits }
     // So each term follows that counts as lowered.

@@ -1,0 +1,15 @@
+pub mod Advancing
+pub mod Beginning
+pub mod Clauses
+pub mod Computing
+pub mod Counters
+pub mod Doing
+pub mod Evaluating
+pub mod Fors
+pub mod Leaving
+pub mod Several
+pub mod Starting
+pub mod Turning
+pub mod Variables
+pub mod Whole
+pub mod Words

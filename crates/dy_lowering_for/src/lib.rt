@@ -1,0 +1,6 @@
+//! The central law, for `for`.
+#![tactic(auto)]
+
+mod laws;
+
+pub use laws::for_laws;
