@@ -1,0 +1,6 @@
+pub mod Closing
+pub mod Libraries
+pub mod Looping
+pub mod Marked
+pub mod Measuring
+pub mod Weighing

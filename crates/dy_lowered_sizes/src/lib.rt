@@ -1,0 +1,6 @@
+//! How much code terms become.
+#![tactic(auto)]
+
+mod laws;
+
+pub use laws::size_laws;
