@@ -1,0 +1,4 @@
+pub mod Folds
+pub mod Facts
+pub mod Below
+pub mod Scoping
