@@ -1,0 +1,8 @@
+//! How many instructions of a body at most run one after the other without a `Tick`.
+#![tactic(auto)]
+
+mod reached;
+mod steps;
+mod walks;
+
+pub use walks::stretch;
