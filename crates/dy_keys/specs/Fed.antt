@@ -1,5 +1,5 @@
 -- What of an item is hashed.
-use Rattle.std.specs.Prelude.{ℕ, Bool, List, [], ◌∷◌, ◌++◌, map, flat_map}
+use Rattle.std.specs.Prelude.{ℕ, ℤ, Bool, List, [], ◌∷◌, ◌++◌, map, flat_map}
 use Rattle.std.specs.Option.{option_map}
 use Rattle.std.specs.declared.option.Option.{Option}
 use Rattle.std.specs.declared.option.Option.TheVariants.{None, Some}
@@ -16,6 +16,9 @@ use Rattle.dy_term.specs.declared.types.Results.{Results}
 abbrev pub truth : Bool → HashWrites
 truth value = hash.u8 2 ++ hash.bool value
 
+abbrev pub number : ℤ → HashWrites
+number value = hash.u8 0 ++ hash.i64 value
+
 abbrev pub joined : List HashWrites → HashWrites
 joined [] = []
 joined (writes ∷ others) = writes ++ joined others
@@ -26,7 +29,7 @@ held (Some writes) = writes
 
 -- a literal, its parts being what of them is hashed
 abbrev pub row : Literal-F HashWrites → HashWrites
-row (Literal-F.Int value) = hash.u8 0 ++ hash.i64 value
+row (Literal-F.Int value) = number value
 row (Literal-F.Char value) = hash.u8 1 ++ hash.u8 value
 row (Literal-F.Bool value) = truth value
 row (Literal-F.Symbol word) = hash.u8 3 ++ word ∷ []

@@ -12,6 +12,7 @@ use Rattle.dy_keys.specs.declared.keys.ResultsKey.{ResultsKey}
 abbrev pub literal_of : LiteralKey → Literal
 literal_of (keys.Written literal) = literal.now
 literal_of (keys.Truth value) = roll-Literal (Literal-F.Bool value)
+literal_of (keys.Number value) = roll-Literal (Literal-F.Int value)
 
 abbrev pub name_of : NameKey → BindingId
 name_of key = key.0

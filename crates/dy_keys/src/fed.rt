@@ -14,10 +14,7 @@ pub(crate) fn feed<H: Hasher>(literal: &Literal, state: &mut H)
     ensures { state.new ≡ fold H.write state.old (fed.literal literal.now) }
 {
     match literal {
-        Literal::Int(value) => {
-            state.write_u8(0);
-            state.write_i64(*value);
-        }
+        Literal::Int(value) => feed_number(*value, state),
         Literal::Char(value) => {
             state.write_u8(1);
             state.write_u8(*value);
@@ -42,6 +39,14 @@ pub(crate) fn feed<H: Hasher>(literal: &Literal, state: &mut H)
             feed_all(items, state);
         }
     }
+}
+
+/// Feeds a number to a hasher.
+pub(crate) fn feed_number<H: Hasher>(value: i64, state: &mut H)
+    ensures { state.new ≡ fold H.write state.old (fed.number value) }
+{
+    state.write_u8(0);
+    state.write_i64(value);
 }
 
 /// Feeds a truth value to a hasher.

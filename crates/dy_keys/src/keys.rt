@@ -9,8 +9,8 @@ ghost use Rattle.dy_sameness.proofs.Equivalence.{partial_equivalence, equivalenc
 ghost use Rattle.dy_sameness.proofs.Sameness.{tells_literal, tells_binding, tells_params};
 ghost use Rattle.dy_sameness.proofs.Sameness.{tells_results};
 
-use crate::fed::{feed, feed_name, feed_params, feed_results, feed_truth};
-use crate::literals::{is_same, is_truth};
+use crate::fed::{feed, feed_name, feed_number, feed_params, feed_results, feed_truth};
+use crate::literals::{is_number, is_same, is_truth};
 use crate::types::{are_same_params, are_same_results};
 use dy_base::BindingId;
 use dy_term::{Literal, Params, Results};
@@ -23,6 +23,8 @@ pub enum LiteralKey<'a> {
     Written(&'a Literal),
     /// `#t` or `#f`.
     Truth(bool),
+    /// A number.
+    Number(i64),
 }
 
 /// A name.
@@ -45,10 +47,17 @@ fn are_same(key: &LiteralKey, other: &LiteralKey) -> bool
         LiteralKey::Written(literal) => match other {
             LiteralKey::Written(same) => is_same(*literal, *same),
             LiteralKey::Truth(value) => is_truth(*literal, *value),
+            LiteralKey::Number(value) => is_number(*literal, *value),
         },
         LiteralKey::Truth(value) => match other {
             LiteralKey::Written(literal) => is_truth(*literal, *value),
             LiteralKey::Truth(same) => *same == *value,
+            LiteralKey::Number(_) => false,
+        },
+        LiteralKey::Number(value) => match other {
+            LiteralKey::Written(literal) => is_number(*literal, *value),
+            LiteralKey::Truth(_) => false,
+            LiteralKey::Number(same) => *same == *value,
         },
     }
 }
@@ -76,6 +85,7 @@ impl<'a> Hash for LiteralKey<'a> {
         match self {
             LiteralKey::Written(literal) => feed(*literal, state),
             LiteralKey::Truth(value) => feed_truth(*value, state),
+            LiteralKey::Number(value) => feed_number(*value, state),
         }
     }
 }

@@ -63,3 +63,10 @@ pub(crate) fn is_truth(literal: &Literal, value: bool) -> bool
 {
     matches!(literal, Literal::Bool(same) if *same == value)
 }
+
+/// Whether a literal is this number.
+pub(crate) fn is_number(literal: &Literal, value: i64) -> bool
+    ensures { IsTrue result ↔ (literal.now ≡ Literal.Int value) }
+{
+    matches!(literal, Literal::Int(same) if *same == value)
+}

@@ -101,6 +101,7 @@ impl<'a> Lists<'a> {
         match flat {
             Flat::Const(literal) => add_literal(&mut self.constants, LiteralKey::Written(literal)),
             Flat::Truth(value) => add_literal(&mut self.constants, LiteralKey::Truth(value)),
+            Flat::Number(value) => add_literal(&mut self.constants, LiteralKey::Number(value)),
             Flat::Global(name) => add_name(&mut self.names, name),
             Flat::SetGlobal(name) => add_name(&mut self.names, name),
             Flat::CallKnown(name, _) => add_name(&mut self.names, name),

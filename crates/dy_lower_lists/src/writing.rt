@@ -160,6 +160,10 @@ pub(crate) fn write(lists: &Lists, place: usize, flat: Flat) -> Result<Instr, Re
             let index = literal_index(lists, LiteralKey::Truth(value))?;
             Ok(one(Opcode::Const, index))
         }
+        Flat::Number(value) => {
+            let index = literal_index(lists, LiteralKey::Number(value))?;
+            Ok(one(Opcode::Const, index))
+        }
         Flat::Global(name) => Ok(one(Opcode::Global, name_index(lists, name)?)),
         Flat::SetGlobal(name) => Ok(one(Opcode::SetGlobal, name_index(lists, name)?)),
         Flat::CallKnown(name, count) => {

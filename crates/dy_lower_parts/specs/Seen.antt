@@ -24,6 +24,7 @@ use Rattle.dy_lower_parts.specs.declared.selecting.Comparing.TheVariants as comp
 abbrev pub seen : Flat → flats.Flat
 seen (flat.Const literal) = Plain (instr.Const literal.now)
 seen (flat.Truth value) = Plain (instr.Const (roll-Literal (Literal-F.Bool value)))
+seen (flat.Number value) = Plain (instr.Const (roll-Literal (Literal-F.Int value)))
 seen (flat.Local local) = Plain (instr.Local local)
 seen (flat.SetLocal local) = Plain (instr.SetLocal local)
 seen (flat.NewCell local) = Plain (instr.NewCell local)

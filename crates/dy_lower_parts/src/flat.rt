@@ -10,6 +10,8 @@ pub enum Flat<'a> {
     Const(&'a Literal),
     /// `#t` or `#f` as a constant.
     Truth(bool),
+    /// A number as a constant.
+    Number(i64),
     Local(u32),
     SetLocal(u32),
     NewCell(u32),

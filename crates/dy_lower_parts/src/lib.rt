@@ -21,6 +21,6 @@ pub use items::ends_in_term;
 pub use jumps::{put_first_alone, put_jump, put_test};
 pub use loops::{put_loop_end, put_loop_test};
 pub use names::{class_named, function_named, generic_named};
-pub use places::{assigned, places_of, put_bound, put_cells, read, rest_of};
+pub use places::{assigned, places_of, put_bound, put_cell, put_cells, put_local, read, rest_of};
 pub use refusal::Refusal;
 pub use selecting::{Comparing, put_again, put_away, put_comparison, put_restored};

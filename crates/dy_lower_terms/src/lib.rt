@@ -1,6 +1,7 @@
 //! From terms to flat code.
 #![tactic(auto)]
 
+mod loops;
 mod terms;
 
 pub use dy_lower_parts::{Buffer, Flat, Refusal, put_cells};

@@ -81,6 +81,10 @@ fn write_flat(out: &mut Written, program: &Program, flat: &Flat) {
             write_literal(out, literal);
         }
         Flat::Truth(value) => out.word(if *value { "const #t" } else { "const #f" }),
+        Flat::Number(value) => {
+            out.word("const ");
+            out.number(*value);
+        }
         Flat::Global(named) => write_named(out, program, "global ", *named),
         Flat::SetGlobal(named) => write_named(out, program, "set-global ", *named),
         Flat::Jump(distance) => {

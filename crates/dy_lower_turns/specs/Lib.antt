@@ -1,0 +1,3 @@
+pub mod ClauseCode
+pub mod Pieces
+pub mod Ways
