@@ -1,1 +1,4 @@
 pub mod Bodies
+pub mod Computing
+pub mod LoopExample
+pub mod ClosureExample

@@ -1,1 +1,2 @@
+pub mod Behaving
 pub mod Placed

@@ -7,6 +7,7 @@ ghost use Rattle.dy_lowered.specs.Tables.{tables_of};
 ghost use Rattle.dy_lower_lists.specs.Listed.{tables};
 ghost use Rattle.dy_lower_library.specs.Seen.{seen_body, seen_bodies};
 ghost use Rattle.dy_lower.specs.Placed.{instructions_of};
+ghost use Rattle.dy_lower.specs.Behaving.{DoesAsMeant};
 
 use dy_bare_rows::bare_row;
 use dy_base::{Items, fold};
@@ -97,7 +98,10 @@ fn code_of(alloc: Global, library: &LibraryRow) -> Result<UnitCode, Refusal>
 /// The unit of a library: its rows without their terms, and its code. It hangs on the library and
 /// on its view alone. An error is want of memory, or says that a term is not lowered yet.
 pub fn lower(alloc: Global, view: &Program, library: Library) -> Result<Unit, Refusal>
-    ensures { IfOk result (λ unit. unit ≡ lowered_unit view.now library) }
+    // It is the unit that is defined.
+    ensures unit { IfOk result (λ unit. unit ≡ lowered_unit view.now library) }
+    // On its code the machine does what the library means.
+    ensures behaves { IfOk result (λ unit. DoesAsMeant library.row unit.code) }
 {
     let code = code_of(alloc, &library.row)?;
     let name = fold(alloc, library.row.name.bytes())?;
