@@ -1,0 +1,4 @@
+pub mod Distinct
+pub mod Quiet
+pub mod Plain
+pub mod Rows
