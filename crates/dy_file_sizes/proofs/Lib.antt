@@ -1,0 +1,7 @@
+pub mod Forms
+pub mod Joining
+pub mod Libraries
+pub mod Rows
+pub mod Terms
+pub mod Tokens
+pub mod Types
