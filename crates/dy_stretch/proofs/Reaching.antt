@@ -6,7 +6,7 @@ use Rattle.std.proofs.lemmas.Option.{slice_get_within, slice_get_past}
 use Rattle.dy_code.specs.Fetching.{Instruction}
 use Rattle.dy_meaning.specs.Numbers.{greatest}
 use Rattle.dy_lowered.specs.Stretches.{ways_of, ways_from, reached, unless_tick, longest, stretch_of}
-use Rattle.dy_stretch.specs.Walks.{IsIn, IsMarked, IsMarkedTo, IsWalkedFrom}
+use Rattle.dy_stretch.specs.Walks.{IsIn, IsMarked, IsMarkedTo, IsMostTo}
 
 pub in_front : (x : ℕ) (xs ys : List ℕ) → IsIn x xs → IsIn x (xs ++ ys)
 in_front x [] ys h = absurd h
@@ -103,15 +103,15 @@ module _ (code : List Instruction) where
   above_one f (y ∷ ys) x (inr h) = let r = above_one f ys x h in grind (arith, r)
 
   -- the longest way from all places is that from those that are reached
-  pub stretch_is : (marks : List Bool) (longs : List ℕ) (most : ℕ) → IsMarkedTo code (length code) marks → IsWalkedFrom code marks 0 longs most → most ≡ stretch_of code
-  stretch_is marks longs most m w =
+  pub stretch_is : (marks : List Bool) (most : ℕ) → IsMarkedTo code (length code) marks → IsMostTo code marks (length code) most → most ≡ stretch_of code
+  stretch_is marks most m w =
       let n = length code in
       let a = below_all (longest code n) most (reached code n 0) (λ x h. under x (complete marks m.closed n 0 x m.first h) (cases_lt x n)) in
       let b = over w.lower in
       omega (arith, a, b)
     where
       under : (x : ℕ) → IsMarked marks x → (x < length code) ⊎ (length code ≤ x) → longest code (length code) x ≤ most
-      under x k (inl l) = w.upper x (omega arith) l k
+      under x k (inl l) = w.upper x l k
       under x k (inr l) = let e = longest_past (length code) x l in omega (arith, e)
 
       over : (most ≡ 0) ⊎ ((place : ℕ) × (place < length code) × IsMarked marks place × (longest code (length code) place ≡ most)) → most ≤ stretch_of code

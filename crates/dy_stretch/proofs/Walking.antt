@@ -1,16 +1,17 @@
 -- Longest ways, from those that come behind.
-use Rattle.std.proofs.Common.{◌≡◌, ◌⊎◌, inl, inr, ℕ, zero, suc, ◌+◌, ◌<◌, ◌≤◌, max, Bool, true, false, true≢false, List, [], ◌∷◌, ◌++◌, length, map, set, get_or, Option, Some, None, slice_get, refl, sym, ap, ◌∙◌, subst, arith}
+use Rattle.std.proofs.Common.{◌≡◌, ◌⊎◌, inl, inr, ℕ, zero, suc, ◌+◌, ◌<◌, ◌≤◌, max, Bool, true, false, true≢false, List, [], ◌∷◌, ◌++◌, length, map, set, get_or, Option, Some, None, slice_get, refl, sym, ap, ◌∙◌, subst, arith, length-append}
+use Rattle.std.specs.Prelude.{min, if◌then◌else◌}
 use Rattle.std.proofs.lemmas.Bool.{cases_lt}
 use Rattle.std.proofs.lemmas.List.{get_or-set_same, get_or-set_other, length-set, length-map}
+use Rattle.std.proofs.lemmas.Option.{same_Some}
 use Rattle.dy_code.specs.Fetching.{Instruction}
 use Rattle.dy_meaning.specs.Numbers.{greatest}
 use Rattle.dy_lowered.specs.Flat.{Code, placed, placed_from}
 use Rattle.dy_lowered.specs.Stretches.{ways, ways_of, ways_from, unless_tick, longest}
 use Rattle.dy_lower_parts.specs.declared.flat.Flat.{Flat}
 use Rattle.dy_lower_parts.specs.Seen.{seen}
-use Rattle.dy_stretch.specs.Walks.{code_of, held, IsMarked, IsWalkedFrom}
+use Rattle.dy_stretch.specs.Walks.{code_of, held, IsMarked, AreLong, IsLong, IsLongBy, AreKnown, IsMostTo}
 use Rattle.dy_stretch.proofs.Marking.{told_apart}
-use Rattle.dy_stretch.proofs.Reaching.{longest_past}
 
 -- the code of instructions
 placed_long : (place : ℕ) (code : Code) → length (placed_from place code) ≡ length code
@@ -33,14 +34,27 @@ code_at fs k f l e =
     let here : 0 + k ≡ k = omega arith in
     placed_at 0 fs k f l ∙ (λ i. Some (placed (here i) (seen (sym e i))))
 
+min_zero : (n : ℕ) → 0 ≡ min n 0
+min_zero n = grind arith
+
+zero_min : (n : ℕ) → 0 ≡ min 0 n
+zero_min n = grind arith
+
+-- the longer one of two ways
+longer : (a b most : ℕ) → max (min a most) (min b most) ≡ min (max a b) most
+longer a b most = grind arith
+
+one_longer : (n long most : ℕ) → long ≡ n + 1 → 1 + min n most ≡ min long (suc most)
+one_longer n long most e = grind (arith, e)
+
+once_more : (n : ℕ) → max n 0 ≡ max (max n 0) 0
+once_more n = grind arith
+
 zero_max : (n : ℕ) → n ≡ max 0 n
 zero_max n = grind arith
 
 max_zero : (n : ℕ) → max n 0 ≡ n
 max_zero n = grind arith
-
-once_more : (n : ℕ) → max n 0 ≡ max (max n 0) 0
-once_more n = grind arith
 
 of_two : (m n : ℕ) → max m (max n 0) ≡ max (max m 0) (max n 0)
 of_two m n = grind arith
@@ -51,105 +65,108 @@ module _ (code : List Instruction) where
   greatest_both f (Some x) None = once_more (f x)
   greatest_both f (Some x) (Some y) = of_two (f x) (f y)
 
-  -- what ticks is on no way
-  pub longest_tick : (more place : ℕ) (i : Instruction) → slice_get code place ≡ Some i → ((count : ℕ) → unless_tick (Some i) count ≡ 0) → longest code more place ≡ 0
-  longest_tick zero place i e t = refl
-  longest_tick (suc more) place i e t =
-      let count = 1 + greatest (map (longest code more) (ways_from code place)) in
-      ap (λ (o : Option Instruction). unless_tick o count) e ∙ t count
+  -- the longest way from a place is that from it alone
+  pub one_long : (place long : ℕ) → AreLong code (held (Some place)) long → IsLong code place long
+  one_long place long h most = sym (max_zero (longest code most place)) ∙ h most
 
   -- one instruction more than on the longer one of the ways behind it
-  pub longest_step : (place : ℕ) (i : Instruction) (next jump : Option ℕ) (a b long : ℕ) → place < length code → slice_get code place ≡ Some i → ways (place + 1) i ≡ held next ++ held jump
-      → ((count : ℕ) → unless_tick (Some i) count ≡ count) → ((more : ℕ) → length code ≤ place + 1 + more → greatest (map (longest code more) (held next)) ≡ a)
-      → ((more : ℕ) → length code ≤ place + 1 + more → greatest (map (longest code more) (held jump)) ≡ b) → long ≡ max a b + 1
-      → (more : ℕ) → length code ≤ place + more → longest code more place ≡ long
-  longest_step place i next jump a b long l e w t f g h zero m = absurd (omega (arith, l, m))
-  longest_step place i next jump a b long l e w t f g h (suc more) m =
-      let count = 1 + greatest (map (longest code more) (ways_from code place)) in
-      let n : length code ≤ place + 1 + more = omega (arith, m) in
-      let leads : ways_from code place ≡ held next ++ held jump = ap (ways_of (place + 1)) e ∙ w in
-      let p = f more n in
-      let q = g more n in
-      let one_more : 1 + max a b ≡ long = omega (arith, h) in
+  pub by_ways : (ticks : Bool) (next jump : Option ℕ) (a b long : ℕ) → ticks ≡ false → AreLong code (held next) a → AreLong code (held jump) b → long ≡ max a b + 1 → IsLongBy code ticks (held next ++ held jump) long
+  by_ways ticks next jump a b long e f g h most =
+      let p = f most in
+      let q = g most in
+      ap (λ (t : Bool). if t then 0 else (1 + greatest (map (longest code most) (held next ++ held jump)))) e
+      ∙ ap (λ (k : ℕ). 1 + k) (greatest_both (longest code most) next jump ∙ (λ j. max (p j) (q j)) ∙ longer a b most)
+      ∙ one_longer (max a b) long most h
+
+  -- the longest way from where the instruction stands
+  pub long_at : (place : ℕ) (i : Instruction) (ticks : Bool) (places : List ℕ) (long : ℕ) → slice_get code place ≡ Some i → ways (place + 1) i ≡ places
+      → ((count : ℕ) → unless_tick (Some i) count ≡ (if ticks then 0 else count)) → IsLongBy code ticks places long → IsLong code place long
+  long_at place i ticks places long e w t h zero = min_zero long
+  long_at place i ticks places long e w t h (suc most) =
+      let count = 1 + greatest (map (longest code most) (ways_from code place)) in
+      let leads : ways_from code place ≡ places = ap (ways_of (place + 1)) e ∙ w in
       ap (λ (o : Option Instruction). unless_tick o count) e ∙ t count
-      ∙ ap (λ (ws : List ℕ). 1 + greatest (map (longest code more) ws)) leads
-      ∙ ap (λ (k : ℕ). 1 + k) (greatest_both (longest code more) next jump)
-      ∙ (λ j. 1 + max (p j) (q j)) ∙ one_more
+      ∙ ap (λ (ws : List ℕ). if ticks then 0 else (1 + greatest (map (longest code most) ws))) leads
+      ∙ h most
 
-  -- the ways that begin at one place
-  pub from_none : (more : ℕ) → greatest (map (longest code more) (held None)) ≡ 0
-  from_none more = refl
+  -- one place more is known
+  pub known_more : (longs : List (Option ℕ)) (place long : ℕ) → place < length code → AreKnown code longs → IsLong code place long → AreKnown code (set longs place (Some long))
+  known_more longs place long l k h = record {
+    long = length-set longs place (Some long) ∙ k.long;
+    right = λ q other e. by q other e (told_apart q place);
+  }
+    where
+      by : (q other : ℕ) → get_or (set longs place (Some long)) q None ≡ Some other → (q ≡ place) ⊎ ((q ≡ place) → ⊥) → IsLong code q other
+      by q other e (inl at) = λ most.
+          let n = k.long in
+          let within : place < length longs = omega (arith, n, l) in
+          let read : get_or (set longs place (Some long)) q None ≡ Some long = ap (λ (p : ℕ). get_or (set longs place (Some long)) p None) at ∙ get_or-set_same longs place (Some long) None within in
+          let same : other ≡ long = same_Some other long (sym e ∙ read) in
+          ap (longest code most) at ∙ h most ∙ ap (λ (n : ℕ). min n most) (sym same)
+      by q other e (inr f) = k.right q other (sym (get_or-set_other longs place q (Some long) None f) ∙ e)
 
-  pub from_one : (to more long : ℕ) → longest code more to ≡ long → greatest (map (longest code more) (held (Some to))) ≡ long
-  from_one to more long e = max_zero (longest code more to) ∙ e
-
-  pub from_past : (to more : ℕ) → length code ≤ to → greatest (map (longest code more) (held (Some to))) ≡ 0
-  from_past to more l = from_one to more 0 (longest_past code more to l)
-
-  pub from_walked : (marks : List Bool) (place : ℕ) (longs : List ℕ) (most to more : ℕ) → IsWalkedFrom code marks (place + 1) longs most → place < to → to < length code → length code ≤ place + 1 + more
-      → greatest (map (longest code more) (held (Some to))) ≡ get_or longs to 0
-  from_walked marks place longs most to more w a b c = from_one to more (get_or longs to 0) (w.right to more (omega (arith, a)) b (omega (arith, a, c)))
-
-  module _ (marks : List Bool) (place long : ℕ) (longs : List ℕ) (most : ℕ) (l : place < length code) (w : IsWalkedFrom code marks (place + 1) longs most)
-      (is : (more : ℕ) → length code ≤ place + more → longest code more place ≡ long) where
-    right_now : (q more : ℕ) → place ≤ q → q < length code → length code ≤ q + more → longest code more q ≡ get_or (set longs place long) q 0
-    right_now q more a b c = by (told_apart q place)
+  module _ (marks : List Bool) (place most : ℕ) (m : IsMostTo code marks place most) where
+    upper_now : (new : ℕ) → most ≤ new → (IsMarked marks place → longest code (length code) place ≤ new) → (q : ℕ) → q < place + 1 → IsMarked marks q → longest code (length code) q ≤ new
+    upper_now new a g q l k = by (cases_lt q place)
       where
-        by : (q ≡ place) ⊎ ((q ≡ place) → ⊥) → longest code more q ≡ get_or (set longs place long) q 0
-        by (inl e) =
-            let within : place < length longs = let k = w.long in omega (arith, k, l) in
-            ap (longest code more) e ∙ is more (omega (arith, c, e)) ∙ sym (get_or-set_same longs place long 0 within) ∙ ap (λ (p : ℕ). get_or (set longs place long) p 0) (sym e)
-        by (inr f) = w.right q more (later (cases_lt place q)) b c ∙ sym (get_or-set_other longs place q long 0 f)
-          where
-            later : (place < q) ⊎ (q ≤ place) → place + 1 ≤ q
-            later (inl k) = omega (arith, k)
-            later (inr k) = absurd (f (omega (arith, k, a)))
+        by : (q < place) ⊎ (place ≤ q) → longest code (length code) q ≤ new
+        by (inl b) = let u = m.upper q b k in omega (arith, u, a)
+        by (inr b) =
+            let at : q ≡ place = omega (arith, b, l) in
+            subst (λ (x : ℕ). longest code (length code) x ≤ new) (sym at) (g (subst (IsMarked marks) at k))
 
-    upper_now : (new : ℕ) → most ≤ new → (IsMarked marks place → long ≤ new) → (q : ℕ) → place ≤ q → q < length code → IsMarked marks q → longest code (length code) q ≤ new
-    upper_now new m g q a b k = by (told_apart q place)
-      where
-        by : (q ≡ place) ⊎ ((q ≡ place) → ⊥) → longest code (length code) q ≤ new
-        by (inl e) =
-            let here : longest code (length code) q ≡ long = ap (longest code (length code)) e ∙ is (length code) (omega arith) in
-            let most_here = g (subst (IsMarked marks) e k) in
-            omega (arith, here, most_here)
-        by (inr f) =
-            let old = w.upper q (later (cases_lt place q)) b k in
-            omega (arith, old, m)
-          where
-            later : (place < q) ⊎ (q ≤ place) → place + 1 ≤ q
-            later (inl h) = omega (arith, h)
-            later (inr h) = absurd (f (omega (arith, h, a)))
-
-    -- one place more is walked over, which is not marked
-    pub walked_past : get_or marks place true ≡ false → IsWalkedFrom code marks place (set longs place long) most
-    walked_past e = record {
-      long = length-set longs place long ∙ w.long;
-      right = λ q more a b c. right_now q more a b c;
-      upper = λ q a b k. upper_now most (omega arith) (λ h. absurd (true≢false (sym h ∙ e))) q a b k;
-      lower = w.lower;
+    -- one place more is gone over, which is not marked
+    pub most_past : get_or marks place true ≡ false → IsMostTo code marks (place + 1) most
+    most_past e = record {
+      upper = λ q l k. upper_now most (omega arith) (λ h. absurd (true≢false (sym h ∙ e))) q l k;
+      lower = m.lower;
     }
 
-    -- one place more is walked over, which is marked
-    pub walked_marked : IsMarked marks place → IsWalkedFrom code marks place (set longs place long) (max most long)
-    walked_marked e = record {
-      long = length-set longs place long ∙ w.long;
-      right = λ q more a b c. right_now q more a b c;
-      upper = λ q a b k. upper_now (max most long) (grind arith) (λ h. grind arith) q a b k;
-      lower = by w.lower (cases_lt most long);
+    -- one place more is gone over, which is marked
+    pub most_marked : (long : ℕ) → place < length code → IsMarked marks place → longest code (length code) place ≡ long → IsMostTo code marks (place + 1) (max most long)
+    most_marked long l e is = record {
+      upper = λ q b k. upper_now (max most long) (grind arith) (λ h. grind (arith, is)) q b k;
+      lower = by m.lower (cases_lt most long);
     }
       where
         by : (most ≡ 0) ⊎ ((q : ℕ) × (q < length code) × IsMarked marks q × (longest code (length code) q ≡ most)) → (most < long) ⊎ (long ≤ most)
             → (max most long ≡ 0) ⊎ ((q : ℕ) × (q < length code) × IsMarked marks q × (longest code (length code) q ≡ max most long))
-        by old (inl k) = inr (place, l, e, (is (length code) (omega arith) ∙ grind (arith, k)))
+        by old (inl k) = inr (place, l, e, (is ∙ grind (arith, k)))
         by (inl z) (inr k) = inl (grind (arith, z, k))
         by (inr r) (inr k) = inr (r.0, r.1, r.2, (r.3 ∙ grind (arith, k)))
 
--- nothing is walked over yet
-pub walked_none : (code : List Instruction) (marks : List Bool) (longs : List ℕ) (n : ℕ) → n ≡ length code → length longs ≡ length code → IsWalkedFrom code marks n longs 0
-walked_none code marks longs n e l = record {
-  long = l;
-  right = λ q more a b c. absurd (omega (arith, a, b, e));
-  upper = λ q a b k. absurd (omega (arith, a, b, e));
+-- nothing is gone over yet
+pub most_none : (code : List Instruction) (marks : List Bool) → IsMostTo code marks 0 0
+most_none code marks = record {
+  upper = λ q a k. absurd (omega (arith, a));
   lower = inl refl;
+}
+
+-- nowhere does anything stand
+pub record Blank (longs : List (Option ℕ)) (n : ℕ) : Type 0 where
+  pub long : length longs ≡ n
+  pub none : (place : ℕ) → get_or longs place None ≡ None
+
+pub blank_none : Blank [] 0
+blank_none = record { long = refl; none = λ place. refl }
+
+none_more : (longs : List (Option ℕ)) → ((place : ℕ) → get_or longs place None ≡ None) → (place : ℕ) → get_or (longs ++ None ∷ []) place None ≡ None
+none_more [] h zero = refl
+none_more [] h (suc place) = refl
+none_more (x ∷ longs) h zero = h 0
+none_more (x ∷ longs) h (suc place) = none_more longs (λ p. h (suc p)) place
+
+pub blank_more : (longs : List (Option ℕ)) (n : ℕ) → Blank longs n → Blank (longs ++ None ∷ []) (n + 1)
+blank_more longs n b = record {
+  long = length-append longs (None ∷ []) ∙ ap (λ (k : ℕ). k + 1) b.long;
+  none = none_more longs b.none;
+}
+
+none≢some : (long : ℕ) → None ≡ Some long → ⊥
+none≢some long e = cc e
+
+pub blank_known : (code : List Instruction) (longs : List (Option ℕ)) (n : ℕ) → n ≡ length code → Blank longs n → AreKnown code longs
+blank_known code longs n e b = record {
+  long = b.long ∙ e;
+  right = λ place long h. absurd (none≢some long (sym (b.none place) ∙ h));
 }

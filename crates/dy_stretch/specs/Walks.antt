@@ -1,9 +1,10 @@
 -- What is known of the places of some code while they are walked over.
-use Rattle.std.specs.Prelude.{◌≡◌, ◌⊎◌, ℕ, ◌+◌, ◌<◌, ◌≤◌, Bool, true, List, [], ◌∷◌, length, map}
-use Rattle.std.specs.Prelude.{get_or}
+use Rattle.std.specs.Prelude.{◌≡◌, ◌⊎◌, ℕ, suc, ◌+◌, ◌<◌, ◌≤◌, min, Bool, true, List, [], ◌∷◌, length}
+use Rattle.std.specs.Prelude.{map, get_or, if◌then◌else◌}
 use Rattle.std.specs.declared.option.Option.{Option}
 use Rattle.std.specs.declared.option.Option.TheVariants.{None, Some}
 use Rattle.dy_code.specs.Fetching.{Instruction}
+use Rattle.dy_meaning.specs.Numbers.{greatest}
 use Rattle.dy_lowered.specs.Flat.{placed_from}
 use Rattle.dy_lowered.specs.Stretches.{ways_from, reached, longest}
 use Rattle.dy_lower_parts.specs.declared.flat.Flat.{Flat}
@@ -42,14 +43,27 @@ pub record Marks (place : ℕ) (to : Option ℕ) (old new : List Bool) : Type 0 
   pub only : (other : ℕ) → IsMarked new other
       → IsMarked old other ⊎ ((place < other) × IsIn other (held to))
 
--- So far as the places from one on are walked over, there stands the longest way from each, and
--- the longest one from those that are marked.
-pub record IsWalkedFrom (code : List Instruction) (marks : List Bool) (from : ℕ) (longs : List ℕ)
-    (most : ℕ) : Type 0 where
+-- The longest one of the ways from some places, of which at most so many instructions are taken.
+abbrev pub AreLong : List Instruction → List ℕ → ℕ → Type 0
+AreLong code places long = (most : ℕ) → greatest (map (longest code most) places) ≡ min long most
+
+-- The longest way from a place, of which at most so many instructions are taken.
+abbrev pub IsLong : List Instruction → ℕ → ℕ → Type 0
+IsLong code place long = (most : ℕ) → longest code most place ≡ min long most
+
+-- the longest way from an instruction that leads to some places
+abbrev pub IsLongBy : List Instruction → Bool → List ℕ → ℕ → Type 0
+IsLongBy code ticks places long = (most : ℕ)
+    → (if ticks then 0 else (1 + greatest (map (longest code most) places))) ≡ min long (suc most)
+
+-- Where something stands for a place, it is the longest way from it.
+pub record AreKnown (code : List Instruction) (longs : List (Option ℕ)) : Type 0 where
   pub long : length longs ≡ length code
-  pub right : (place more : ℕ) → from ≤ place → place < length code
-      → length code ≤ place + more → longest code more place ≡ get_or longs place 0
-  pub upper : (place : ℕ) → from ≤ place → place < length code → IsMarked marks place
+  pub right : (place long : ℕ) → get_or longs place None ≡ Some long → IsLong code place long
+
+-- So far as the places before one are gone over, the longest way from those that are marked.
+pub record IsMostTo (code : List Instruction) (marks : List Bool) (to : ℕ) (most : ℕ) : Type 0 where
+  pub upper : (place : ℕ) → place < to → IsMarked marks place
       → longest code (length code) place ≤ most
   pub lower : (most ≡ 0) ⊎ ((place : ℕ) × (place < length code) × IsMarked marks place
       × (longest code (length code) place ≡ most))

@@ -3,6 +3,8 @@
 
 mod reached;
 mod steps;
+#[cfg(test)]
+mod tests;
 mod walks;
 
 pub use walks::stretch;

@@ -1,5 +1,5 @@
-use Rattle.dy_stretch.specs.Walks.{code_of, IsWalkedFrom}
+use Rattle.dy_stretch.specs.Walks.{code_of, AreKnown}
 use Rattle.dy_stretch.proofs.walks.walk_of.Given as goal
 
-abbrev pub invariant-loop-place : goal.invariant-loop-place
-invariant-loop-place l = IsWalkedFrom (code_of l.flats.items) l.marks l.place l.walk.longs.items l.walk.most
+abbrev pub invariant-loop-turn : goal.invariant-loop-turn
+invariant-loop-turn l = AreKnown (code_of l.flats.items) l.longs.items
