@@ -3,8 +3,8 @@
 
 usage: rows.py PROGRAM
 
-`PROGRAM` is the program of the crate dy_count_rows, which `rt run` leaves in
-crates/dy_count_rows/out. Files of forms are made in a temporary folder:
+`PROGRAM` is the program of the crate dy_count, which `rt run` leaves in crates/dy_count/out. Files
+of forms are made in a temporary folder:
 
 - deep: bodies nested 190 deep, each with a local of its own that the next one reads;
 - names: constants, each of which reads the one before it;
@@ -56,12 +56,12 @@ def local_names(count):
     return f"begin\n  let name-0 = 0;\n{rest}  name-{count - 1}\nend;\n"
 
 
-def seconds(program, path):
+def seconds(command, path):
     """The least seconds of some runs on a file: those of the processor, and those of the clock."""
     best = (math.inf, math.inf)
     for _ in range(RUNS):
         begun = time.perf_counter()
-        child = subprocess.Popen([program, path], stdout=subprocess.DEVNULL)
+        child = subprocess.Popen([*command, path], stdout=subprocess.DEVNULL)
         _, status, usage = os.wait4(child.pid, 0)
         elapsed = time.perf_counter() - begun
         child.returncode = os.waitstatus_to_exitcode(status)
@@ -71,7 +71,7 @@ def seconds(program, path):
     return best
 
 
-def measure(program, folder, title, sizes, text_of):
+def measure(command, folder, title, sizes, text_of):
     """Prints a table of times, and gives the bounds that are not kept."""
     print(f"\n{title}\n")
     print("| size | bytes | elapsed | processor | per byte | growth |")
@@ -83,7 +83,7 @@ def measure(program, folder, title, sizes, text_of):
         path = os.path.join(folder, f"{title}-{size}.dylan")
         with open(path, "w", encoding="ascii") as file:
             file.write(text)
-        taken, elapsed = seconds(program, path)
+        taken, elapsed = seconds(command, path)
         growth = ""
         if before is not None:
             doublings = math.log2(size / before[0])
@@ -99,23 +99,25 @@ def measure(program, folder, title, sizes, text_of):
     return broken
 
 
-def main(words):
-    """Measures each kind of file."""
+def run(words, usage, counted, kinds):
+    """Measures what is counted in each kind of file."""
     if len(words) != 1:
-        print(__doc__, file=sys.stderr)
+        print(usage, file=sys.stderr)
         return 2
-    program = os.path.abspath(words[0])
+    command = [os.path.abspath(words[0]), counted]
+    broken = []
     with tempfile.TemporaryDirectory() as folder:
         try:
-            broken = measure(program, folder, "deep", BYTES, deep)
-            broken += measure(program, folder, "names", NAMES, names)
-            broken += measure(program, folder, "locals", NAMES, local_names)
+            for title, sizes, text_of in kinds:
+                broken += measure(command, folder, title, sizes, text_of)
         except Failed as failed:
-            broken = [str(failed)]
+            broken.append(str(failed))
     for line in broken:
         print(line, file=sys.stderr)
     return 1 if broken else 0
 
 
+KINDS = [("deep", BYTES, deep), ("names", NAMES, names), ("locals", NAMES, local_names)]
+
 if __name__ == "__main__":
-    sys.exit(main(sys.argv[1:]))
+    sys.exit(run(sys.argv[1:], __doc__, "rows", KINDS))
