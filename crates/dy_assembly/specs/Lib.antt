@@ -1,0 +1,4 @@
+pub mod Gathered
+pub mod Generics
+pub mod Libraries
+pub mod Seen
