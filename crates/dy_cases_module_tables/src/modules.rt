@@ -2,7 +2,8 @@
 
 use crate::rows::{ModuleRow, Step, UseRow};
 use dy_base::{BindingId, Items, Name, NameList, Place, Ref, Text, What, fold};
-use dy_modules::{ModuleForm, ModuleTable, NameSet, Owner, Promise, UseClause};
+use dy_module_tables::{ModuleTable, Promise};
+use dy_modules::{ModuleForm, NameSet, Owner, UseClause};
 use std::alloc::{AllocError, Global};
 
 fn name_set(alloc: Global, names: &[&str]) -> Result<NameSet, AllocError> {

@@ -4,7 +4,7 @@ use crate::files::{Case, File};
 use crate::libraries::{OWN, function, library_name};
 use crate::reading::table_of;
 use dy_base::{BindingId, Fault, Name, Place, Refusal, fold};
-use dy_modules::ModuleTable;
+use dy_module_tables::ModuleTable;
 use std::alloc::{AllocError, Global};
 
 fn write_bytes(bytes: &[u8], out: &mut String) -> Result<(), AllocError> {

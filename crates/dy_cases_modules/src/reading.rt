@@ -6,7 +6,7 @@ use dy_base::{Items, Name, Refusal, fold};
 use dy_fragment::group;
 use dy_graph::graph;
 use dy_lexer::lex;
-use dy_modules::ModuleTable;
+use dy_module_tables::ModuleTable;
 use dy_tree::{Fragment, MacroKind, Word, Words};
 use std::alloc::{AllocError, Global};
 

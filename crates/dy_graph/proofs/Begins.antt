@@ -10,9 +10,9 @@ use Rattle.dy_base.specs.declared.fault.Refusal.{Refusal}
 use Rattle.dy_base.specs.declared.fault.Refusal.TheVariants as refusals
 use Rattle.dy_module_forms.specs.declared.written.Form.{Form}
 use Rattle.dy_module_forms.specs.Forms.{Answers}
-use Rattle.dy_modules.specs.Graphs.{Graph}
+use Rattle.dy_module_tables.specs.Graphs.{Graph}
 use Rattle.dy_modules.specs.declared.clause.ModuleForm.{ModuleForm}
-use Rattle.dy_modules.specs.declared.promise.Promise.{Promise}
+use Rattle.dy_module_tables.specs.declared.promise.Promise.{Promise}
 use Rattle.dy_modules.specs.declared.rounds.ModuleTables.{ModuleTables}
 use Rattle.dy_modules.specs.Clauses.{Name, IsIn}
 use Rattle.dy_modules.specs.Order.{is_made}

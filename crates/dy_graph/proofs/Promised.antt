@@ -11,7 +11,7 @@ use Rattle.dy_module_forms.specs.declared.written.Form.{Form}
 use Rattle.dy_modules.specs.declared.clause.UseClause.{UseClause}
 use Rattle.dy_modules.specs.declared.clause.ModuleForm.{ModuleForm}
 use Rattle.dy_modules.specs.declared.rounds.ModuleTables.{ModuleTables}
-use Rattle.dy_modules.specs.declared.promise.Promise.{Promise}
+use Rattle.dy_module_tables.specs.declared.promise.Promise.{Promise}
 use Rattle.dy_modules.specs.Clauses.{Name}
 use Rattle.dy_modules.proofs.Rows.{drop_end}
 use Rattle.dy_module_numbers.specs.Options.{use_clause, exported}

@@ -4,13 +4,12 @@ use Rattle.std.specs.Option.{option_map}
 use Rattle.dy_base.specs.Tables.{NamedList}
 use Rattle.dy_base.specs.declared.fault.Place.{Place}
 use Rattle.dy_modules.specs.declared.clause.UseClause.{UseClause}
-use Rattle.dy_modules.specs.declared.promise.Promise.{Promise}
+use Rattle.dy_module_tables.specs.declared.promise.Promise.{Promise}
 use Rattle.dy_modules.specs.declared.table.Cell.{Cell}
 use Rattle.dy_modules.specs.Clauses.{Name}
 use Rattle.dy_modules.specs.Cells.{after_source, after_uses}
 use Rattle.dy_modules.specs.Builds.{is_clear_row}
-use Rattle.dy_modules.proofs.Rows.{one_more}
-use Rattle.dy_modules.proofs.Promises.{dropped}
+use Rattle.dy_modules.proofs.Rows.{one_more, dropped}
 use Rattle.dy_modules.proofs.Turns.{drop_first}
 use Rattle.dy_library_form.specs.declared.found.Found.{Found}
 use Rattle.dy_library_form.specs.Told.{name_or, name_of_two, first_of_two, unknown_header, unknown_headers}

@@ -16,8 +16,8 @@ use Rattle.dy_module_forms.specs.declared.written.Clause.TheVariants as clauses
 use Rattle.dy_module_forms.specs.declared.written.Placed.{Placed}
 use Rattle.dy_module_forms.specs.declared.written.Form.{Form}
 use Rattle.dy_module_forms.specs.Forms.{syntax_at}
-use Rattle.dy_modules.specs.declared.promise.Promise.{Promise}
-use Rattle.dy_modules.specs.Graphs.{Graph}
+use Rattle.dy_module_tables.specs.declared.promise.Promise.{Promise}
+use Rattle.dy_module_tables.specs.Graphs.{Graph}
 use Rattle.dy_modules.specs.declared.clause.UseClause.{UseClause}
 use Rattle.dy_modules.specs.declared.clause.ModuleForm.{ModuleForm}
 use Rattle.dy_modules.specs.Clauses.{Name, IsIn, brought}

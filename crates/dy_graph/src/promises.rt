@@ -5,7 +5,7 @@ ghost use Rattle.std.specs.Prelude.{IfOk, OnOk, Some, None};
 ghost use Rattle.std.specs.Option.{option_map};
 ghost use Rattle.std.specs.FinMap as map;
 ghost use Rattle.dy_base.specs.Tables.{table_of};
-ghost use Rattle.dy_modules.specs.declared.promise.Promise as promise;
+ghost use Rattle.dy_module_tables.specs.declared.promise.Promise as promise;
 ghost use Rattle.dy_modules.specs.Order.{is_made};
 ghost use Rattle.dy_graph.specs.Faults.{AreMade};
 ghost use Rattle.dy_module_numbers.specs.Options as said;
@@ -17,7 +17,8 @@ use crate::judging::Made;
 use dy_base::{Items, Name, NameList, Place, fold};
 use dy_module_forms::{Clause, Form, Placed, UseOption};
 use dy_module_numbers::{Naming, exported, source_of, use_clause};
-use dy_modules::{Cell, Promise, UseClause, brought};
+use dy_module_tables::Promise;
+use dy_modules::{Cell, UseClause, brought};
 use std::alloc::{AllocError, Global};
 
 fn promise_names(

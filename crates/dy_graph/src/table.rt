@@ -24,7 +24,8 @@ use dy_library_form::{
 };
 use dy_module_forms::{Form, read_forms};
 use dy_module_numbers::{Naming, Outside, Sorted, modules_outside, put_modules, sort_forms};
-use dy_modules::{ModuleForm, ModuleTable, ModuleTables, NameSet, settle};
+use dy_module_tables::ModuleTable;
+use dy_modules::{ModuleForm, ModuleTables, NameSet, settle};
 use dy_tree::Fragment;
 use std::alloc::{AllocError, Global};
 

@@ -58,7 +58,7 @@ clear_each [] e m o is = absurd (none_is o is)
 clear_each (t ∷ done) e zero o is = ap is_clear_module (sym (some_is t o is)) ∙ (both_true _ _ e).0
 clear_each (t ∷ done) e (suc m) o is = clear_each done (both_true _ _ e).1 m o is
 
-unclear : (done : List (Option ModuleTables)) → all_clear done ≡ false → (m : ℕ) × (o : Option ModuleTables) × (slice_get done m ≡ Some o) × (is_clear_module o ≡ false)
+pub unclear : (done : List (Option ModuleTables)) → all_clear done ≡ false → (m : ℕ) × (o : Option ModuleTables) × (slice_get done m ≡ Some o) × (is_clear_module o ≡ false)
 unclear [] e = absurd (true≢false e)
 unclear (t ∷ done) e = by_head (is_clear_module t) refl e (unclear done)
   where

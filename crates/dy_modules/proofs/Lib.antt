@@ -1,15 +1,11 @@
 pub mod Clear
-pub mod Exported
 pub mod Ins
 pub mod Least
 pub mod Loop
-pub mod Meanings
 pub mod NameSets
-pub mod Promises
 pub mod Put
 pub mod Rows
 pub mod Says
 pub mod Step
-pub mod Targets
 pub mod Turns
 pub mod TwoOwners

@@ -110,3 +110,8 @@ take_end [] zero h = refl
 take_end [] (suc i) h = refl
 take_end (x ∷ xs) zero h = absurd (omega (arith, h))
 take_end (x ∷ xs) (suc i) h = ap (λ l. x ∷ l) (take_end xs i (omega (arith, h)))
+
+pub dropped : {X : Type 0} (xs : List X) (i : ℕ) (x : X) → slice_get xs i ≡ Some x → drop i xs ≡ x ∷ drop (suc i) xs
+dropped [] i x at = absurd (none_is x at)
+dropped (y ∷ xs) zero x at = ap (λ z. z ∷ xs) (some_is y x at)
+dropped (y ∷ xs) (suc i) x at = dropped xs i x at

@@ -1,7 +1,6 @@
 pub mod Builds
+pub mod Cells
 pub mod Clash
 pub mod Clauses
-pub mod Sees
-pub mod Cells
-pub mod Graphs
 pub mod Order
+pub mod Sees

@@ -1,19 +1,13 @@
-//! The table of modules, made of their forms.
+//! Whether tables are made, and no name in them has two owners.
 
-ghost use Rattle.std.specs.Prelude.{◌≡◌, ◌≤◌, true, false, length, replicate, IfOk, Some, None};
-ghost use Rattle.std.specs.Prelude.{is_some, slice_get};
+ghost use Rattle.std.specs.Prelude.{◌≡◌};
 ghost use Rattle.std.specs.Option.{option_map};
-ghost use Rattle.std.specs.FinMap as map;
-ghost use Rattle.dy_base.specs.Tables.{NameMap};
-ghost use Rattle.dy_base.specs.declared.ids.BindingId.{BindingId};
-ghost use Rattle.dy_modules.specs.Graphs.{AreFolded};
-ghost use Rattle.dy_modules.specs.Builds.{IsClear, is_many, is_clear_row, is_clear};
+ghost use Rattle.dy_modules.specs.Builds.{is_many, is_clear_row, is_clear};
 ghost use Rattle.dy_modules.specs.Builds.{is_clear_module, all_clear};
 
 use crate::rounds::ModuleTables;
 use crate::table::Cell;
-use dy_base::{BindingId, NameList, NameTable};
-use std::alloc::{AllocError, Global};
+use dy_base::NameList;
 
 fn is_many(cell: &Cell) -> bool
     ensures { result ≡ is_many cell.now }
@@ -64,15 +58,4 @@ pub fn all_clear(done: &[Option<ModuleTables>]) -> bool
         }
     }
     true
-}
-
-/// A table of definitions for each of some modules, with none yet.
-pub fn nothing_defined(alloc: Global, count: usize) -> Result<Vec<NameTable<BindingId>>, AllocError>
-    ensures { IfOk result (λ v. v.items ≡ replicate count map.empty) }
-{
-    let mut defined = Vec::new(alloc);
-    for _i in 0..count {
-        defined.push(NameTable::new(alloc))?;
-    }
-    Ok(defined)
 }

@@ -1,6 +1,6 @@
 use Rattle.std.proofs.Common.{List, [], length, sym, ap, subst, ◌∙◌}
 use Rattle.dy_module_forms.specs.declared.written.Form.{Form}
-use Rattle.dy_modules.specs.Graphs.{Graph}
+use Rattle.dy_module_tables.specs.Graphs.{Graph}
 use Rattle.dy_library_form.specs.Library.{shown_modules}
 use Rattle.dy_graph.specs.Faults.{AreMade}
 use Rattle.dy_graph.specs.Judged.{AreReady, AreAllPromises}

@@ -1,7 +1,6 @@
 use Rattle.std.proofs.Common.{◌≡◌, ◌+◌, ◌++◌, ◌∷◌, length, map, drop, Some, slice_get, refl, sym, ap, ◌∙◌}
 use Rattle.std.proofs.lemmas.Option.{slice_get_read}
-use Rattle.dy_modules.proofs.Rows.{one_more}
-use Rattle.dy_modules.proofs.Promises.{dropped}
+use Rattle.dy_modules.proofs.Rows.{one_more, dropped}
 use Rattle.dy_module_numbers.specs.Numbers.{outside_form, numbered_after, after_exported, library_numbers}
 use Rattle.dy_module_numbers.proofs.Outsides.{turn_forms, turn_numbers}
 use Rattle.dy_module_numbers.proofs.outside.add_exported.Goals as goal
