@@ -1,0 +1,5 @@
+pub mod Rows
+pub mod Bodies
+pub mod Names
+pub mod Generics
+pub mod Programs
