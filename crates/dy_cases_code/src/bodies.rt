@@ -23,7 +23,6 @@ fn write_term(
     out.word("[");
     match emit(alloc, layout, term, &mut number, &mut code) {
         Ok(()) => write_code(out, program, &code),
-        Err(Refusal::NotYet) => out.word("not yet"),
         Err(Refusal::Memory) => return Err(AllocError),
     }
     out.word("]");

@@ -98,7 +98,8 @@ fn feed_member<H: Hasher>(member: &Member, state: &mut H)
     }
 }
 
-fn feed_type<H: Hasher>(declared: &DyType, state: &mut H)
+/// Feeds a type to a hasher.
+pub(crate) fn feed_type<H: Hasher>(declared: &DyType, state: &mut H)
     ensures { state.new ≡ fold H.write state.old (fed.declared_type declared.now) }
 {
     for member in declared.members.as_slice() {

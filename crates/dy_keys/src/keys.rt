@@ -2,18 +2,19 @@
 
 ghost use Rattle.std.specs.Prelude.{◌≡◌, ◌↔◌, IsTrue};
 ghost use Rattle.dy_values.specs.Identity.{is_same_binding};
-ghost use Rattle.dy_lowered.specs.Sameness.{is_same_literal, is_same_params, is_same_results};
+ghost use Rattle.dy_lowered.specs.Sameness.{is_same_literal, is_same_params, is_same_type};
+ghost use Rattle.dy_lowered.specs.Sameness.{is_same_results};
 ghost use Rattle.dy_keys.specs.Fed as fed;
-ghost use Rattle.dy_keys.specs.Keys.{literal_of, name_of, params_of, results_of};
+ghost use Rattle.dy_keys.specs.Keys.{literal_of, name_of, params_of, type_of, results_of};
 ghost use Rattle.dy_sameness.proofs.Equivalence.{partial_equivalence, equivalence, alike};
 ghost use Rattle.dy_sameness.proofs.Sameness.{tells_literal, tells_binding, tells_params};
-ghost use Rattle.dy_sameness.proofs.Sameness.{tells_results};
+ghost use Rattle.dy_sameness.proofs.Sameness.{tells_type, tells_results};
 
-use crate::fed::{feed, feed_name, feed_number, feed_params, feed_results, feed_truth};
+use crate::fed::{feed, feed_name, feed_number, feed_params, feed_results, feed_truth, feed_type};
 use crate::literals::{is_number, is_same, is_truth};
-use crate::types::{are_same_params, are_same_results};
+use crate::types::{are_same_params, are_same_results, type_same};
 use dy_base::BindingId;
-use dy_term::{Literal, Params, Results};
+use dy_term::{DyType, Literal, Params, Results};
 use std::hash::{Hash, Hasher};
 
 /// A literal.
@@ -34,6 +35,10 @@ pub struct NameKey(pub BindingId);
 /// A parameter list.
 #[derive(Clone, Copy)]
 pub struct ParamsKey<'a>(pub &'a Params);
+
+/// A type.
+#[derive(Clone, Copy)]
+pub struct TypeKey<'a>(pub &'a DyType);
 
 /// A list of results.
 #[derive(Clone, Copy)]
@@ -141,6 +146,30 @@ impl<'a> Hash for ParamsKey<'a> {
 
     fn hash<H: Hasher>(&self, state: &mut H) {
         feed_params(self.0, state);
+    }
+}
+
+impl<'a> PartialEq for TypeKey<'a> {
+    ghost eq = { λ key other. is_same_type (type_of key) (type_of other) };
+
+    ghost laws = { partial_equivalence is_same_type tells_type type_of };
+
+    fn eq(&self, other: &Self) -> bool {
+        type_same(self.0, other.0)
+    }
+}
+
+impl<'a> Eq for TypeKey<'a> {
+    ghost laws = { equivalence is_same_type tells_type type_of };
+}
+
+impl<'a> Hash for TypeKey<'a> {
+    ghost hash_input = { λ key. fed.declared_type (type_of key) };
+
+    ghost respects_eq = { alike is_same_type tells_type type_of fed.declared_type };
+
+    fn hash<H: Hasher>(&self, state: &mut H) {
+        feed_type(self.0, state);
     }
 }
 

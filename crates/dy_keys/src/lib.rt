@@ -6,4 +6,4 @@ mod keys;
 mod literals;
 mod types;
 
-pub use keys::{LiteralKey, NameKey, ParamsKey, ResultsKey};
+pub use keys::{LiteralKey, NameKey, ParamsKey, ResultsKey, TypeKey};

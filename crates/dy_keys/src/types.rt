@@ -104,6 +104,13 @@ fn is_same_rest(rest: &Option<DyType>, other: &Option<DyType>) -> bool
     }
 }
 
+/// Whether two types are the same.
+pub(crate) fn type_same(declared: &DyType, other: &DyType) -> bool
+    ensures { result ≡ is_same_type declared.now other.now }
+{
+    is_same_type(declared, other)
+}
+
 fn types_same(types: &Items<DyType>, others: &Items<DyType>) -> bool
     ensures { result ≡ are_same is_same_type types.now others.now }
 {

@@ -1,4 +1,1 @@
 pub mod Bodies
-pub mod Computing
-pub mod LoopExample
-pub mod ClosureExample

@@ -10,7 +10,7 @@ use Rattle.dy_lowered.specs.Sameness.{is_same_literal, is_same_bound, is_same_pa
 use Rattle.dy_lowered.specs.Sameness.{is_same_results}
 use Rattle.dy_lowered.specs.Tables.{Tables}
 use Rattle.dy_keys.specs.Keys.{literal_of, params_of}
-use Rattle.dy_keys.specs.Keys.{name_of as key_name, results_of as key_results}
+use Rattle.dy_keys.specs.Keys.{name_of as key_name, type_of as key_type, results_of as key_results}
 use Rattle.dy_lower_lists.specs.declared.lists.Lists.{Lists}
 
 abbrev pub tables : Lists → Tables
@@ -19,7 +19,7 @@ tables lists = record {
   names = map key_name lists.names.keys;
   bound = [];
   lists = map params_of lists.lists.keys;
-  types = [];
+  types = map key_type lists.types.keys;
   results = map key_results lists.results.keys;
 }
 

@@ -5,20 +5,21 @@ ghost use Rattle.indexmap.specs.IndexSet.{insert_key};
 ghost use Rattle.dy_values.specs.Identity.{is_same_binding};
 ghost use Rattle.dy_code.specs.Fetching.{Instruction};
 ghost use Rattle.dy_lowered.specs.Flat.{placed, placed_from};
-ghost use Rattle.dy_lowered.specs.Sameness.{is_same_literal, is_same_params, is_same_results};
+ghost use Rattle.dy_lowered.specs.Sameness.{is_same_literal, is_same_params, is_same_type};
+ghost use Rattle.dy_lowered.specs.Sameness.{is_same_results};
 ghost use Rattle.dy_lowered.specs.Tables.{tables_of, written};
 ghost use Rattle.dy_lowered.specs.Terms as lowered;
 ghost use Rattle.dy_lower_parts.specs.Seen.{seen, seen_code};
-ghost use Rattle.dy_keys.specs.Keys.{literal_of, name_of, params_of, results_of};
+ghost use Rattle.dy_keys.specs.Keys.{literal_of, name_of, params_of, type_of, results_of};
 ghost use Rattle.dy_lower_lists.specs.Listed.{tables, noted};
 
-use crate::copies::{copy_literals, copy_names, copy_params, copy_results};
+use crate::copies::{copy_declared, copy_literals, copy_names, copy_params, copy_results};
 use crate::writing::write;
 use dy_base::{BindingId, GenericId, Items, What};
 use dy_code::Instr;
-use dy_keys::{LiteralKey, NameKey, ParamsKey, ResultsKey};
+use dy_keys::{LiteralKey, NameKey, ParamsKey, ResultsKey, TypeKey};
 use dy_lower_parts::{Buffer, Flat, Refusal};
-use dy_term::{Literal, Params, Results};
+use dy_term::{DyType, Literal, Params, Results};
 use indexmap::IndexSet;
 use std::alloc::Global;
 
@@ -28,6 +29,7 @@ pub struct Lists<'a> {
     pub(crate) constants: IndexSet<LiteralKey<'a>>,
     pub(crate) names: IndexSet<NameKey>,
     pub(crate) lists: IndexSet<ParamsKey<'a>>,
+    pub(crate) types: IndexSet<TypeKey<'a>>,
     pub(crate) results: IndexSet<ResultsKey<'a>>,
 }
 
@@ -68,6 +70,14 @@ fn add_params<'a>(lists: &mut IndexSet<ParamsKey<'a>>, params: &'a Params) -> Re
     Ok(())
 }
 
+fn add_type<'a>(types: &mut IndexSet<TypeKey<'a>>, declared: &'a DyType) -> Result<(), Refusal>
+    ensures { OnOk result (map type_of types.new.keys
+        ≡ insert_key is_same_type (map type_of types.old.keys) declared.now) }
+{
+    types.insert(TypeKey(declared))?;
+    Ok(())
+}
+
 fn add_results<'a>(all: &mut IndexSet<ResultsKey<'a>>, results: &'a Results) -> Result<(), Refusal>
     ensures { OnOk result (map results_of all.new.keys
         ≡ insert_key is_same_results (map results_of all.old.keys) results.now) }
@@ -84,11 +94,13 @@ impl<'a> Lists<'a> {
         let constants = IndexSet::new(alloc);
         let names = IndexSet::new(alloc);
         let lists = IndexSet::new(alloc);
+        let types = IndexSet::new(alloc);
         let results = IndexSet::new(alloc);
         Lists {
             constants,
             names,
             lists,
+            types,
             results,
         }
     }
@@ -108,12 +120,13 @@ impl<'a> Lists<'a> {
             Flat::Search(generic, _) => add_name(&mut self.names, generic_named(generic)),
             Flat::CheckResults(results) => add_results(&mut self.results, results),
             Flat::Args(params) => add_params(&mut self.lists, params),
+            Flat::Handle(condition) => add_type(&mut self.types, condition),
             Flat::Local(_) | Flat::SetLocal(_) | Flat::NewCell(_) | Flat::CellGet(_) => Ok(()),
             Flat::CellSet(_) | Flat::Free(_) | Flat::FreeGet(_) | Flat::FreeSet(_) => Ok(()),
             Flat::Push | Flat::Jump(_) | Flat::JumpFalse(_) | Flat::Tick => Ok(()),
             Flat::Closure(_, _) | Flat::CallValue(_) | Flat::Return | Flat::Values(_) => Ok(()),
             Flat::Spread(_, _) | Flat::Op(_, _) | Flat::Save | Flat::Restore => Ok(()),
-            Flat::NoMatch => Ok(()),
+            Flat::Unhandle(_) | Flat::NoMatch => Ok(()),
         }
     }
 
@@ -165,6 +178,14 @@ impl<'a> Lists<'a> {
     {
         let lists = copy_params(alloc, self.lists.as_slice())?;
         Ok(lists)
+    }
+
+    /// The types.
+    pub fn types(&self, alloc: Global) -> Result<Items<DyType>, Refusal>
+        ensures { IfOk result (λ types. types ≡ (tables self.now).types) }
+    {
+        let types = copy_declared(alloc, self.types.as_slice())?;
+        Ok(types)
     }
 
     /// The lists of results.

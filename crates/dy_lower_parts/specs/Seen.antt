@@ -1,5 +1,5 @@
 -- Flat code of the program as the definitions have it, and the code of lists of terms.
-use Rattle.std.specs.Prelude.{ℕ, Bool, true, false, List, [], ◌∷◌, ◌++◌, map, flat_map}
+use Rattle.std.specs.Prelude.{ℕ, ◌+◌, Bool, true, false, List, [], ◌∷◌, ◌++◌, map, flat_map}
 use Rattle.dy_term.specs.declared.literal.Literal.{Literal-F, roll-Literal}
 use Rattle.dy_term.specs.declared.term.Term.{Term}
 use Rattle.dy_term.specs.declared.term.BlockRow.{BlockRow}
@@ -13,7 +13,8 @@ use Rattle.dy_meaning.specs.Layouts.{Layout}
 use Rattle.dy_meaning.specs.Numbering.{Numbered, terms_from, items_from, branches_from, arms_from}
 use Rattle.dy_lowered.specs.Flat as flats
 use Rattle.dy_lowered.specs.Flat.{Code, Plain}
-use Rattle.dy_lowered.specs.Parts.{Part, Method, truth, Comparing, by_identity, by_function}
+use Rattle.dy_lowered.specs.Parts.{Part, Method, truth, without_handlers, Comparing, by_identity}
+use Rattle.dy_lowered.specs.Parts.{by_function}
 use Rattle.dy_lowered.specs.Terms.{code_of, item_code, lambda_code, methods_from}
 use Rattle.dy_lower_parts.specs.declared.buffer.Buffer.{Buffer}
 use Rattle.dy_lower_parts.specs.declared.flat.Flat.{Flat}
@@ -48,6 +49,8 @@ seen (flat.Values count) = Plain (instr.Values count)
 seen (flat.Spread count collects) = Plain (instr.Spread count collects)
 seen (flat.CheckResults results) = Plain (instr.CheckResults results.now)
 seen (flat.Op operation count) = Plain (instr.Op operation count)
+seen (flat.Handle condition) = Plain (instr.Handle condition.now)
+seen (flat.Unhandle count) = Plain (instr.Unhandle count)
 seen flat.Save = Plain instr.Save
 seen flat.Restore = Plain instr.Restore
 seen flat.NoMatch = Plain instr.NoMatch
@@ -110,3 +113,20 @@ ends_in_term before (item ∷ items) = ends_in_term (is_term item) items
 abbrev pub values_of_last : Bool → Code
 values_of_last true = []
 values_of_last false = truth false
+
+-- how many handlers a part of a body is, and how many there are behind parts with those before them
+abbrev pub handlers_of_kind : Item-F ForClause Item Term BlockRow ForRow Lambda → ℕ
+handlers_of_kind (Item-F.Handler condition function) = 1
+handlers_of_kind kind = 0
+
+abbrev pub handlers_of : Item → ℕ
+handlers_of item = handlers_of_kind (out-Item item)
+
+abbrev pub handlers_behind : ℕ → List Item → ℕ
+handlers_behind before [] = before
+handlers_behind before (item ∷ items) = handlers_behind (before + handlers_of item) items
+
+-- what comes behind the parts of a body
+abbrev pub end_of_body : List Item → Code
+end_of_body items =
+    values_of_last (ends_in_term false items) ++ without_handlers (handlers_behind 0 items)

@@ -1,7 +1,7 @@
 //! Instructions before they have a place.
 
 use dy_base::{BindingId, GenericId};
-use dy_term::{Literal, Params, Results};
+use dy_term::{DyType, Literal, Params, Results};
 
 /// An instruction whose items stand as themselves. A distance counts instructions from the next one
 /// on.
@@ -36,6 +36,8 @@ pub enum Flat<'a> {
     Spread(u32, bool),
     CheckResults(&'a Results),
     Op(u16, u32),
+    Handle(&'a DyType),
+    Unhandle(u32),
     Save,
     Restore,
     NoMatch,

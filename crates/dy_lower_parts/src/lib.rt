@@ -17,7 +17,7 @@ pub use buffer::{Buffer, count};
 pub use calls::{put_known_call, put_operation, put_search, put_value_call};
 pub use closures::{put_method, put_methods};
 pub use flat::Flat;
-pub use items::ends_in_term;
+pub use items::put_body_end;
 pub use jumps::{put_first_alone, put_jump, put_test};
 pub use loops::{put_loop_end, put_loop_test};
 pub use names::{class_named, function_named, generic_named};

@@ -2,13 +2,12 @@
 
 use std::alloc::{AllocError, AllocFailed};
 
-/// Why no code is made of a term.
+/// Why no code is made of a term. There is no other reason than want of memory: each term has its
+/// code, as it is defined.
 #[derive(Clone, Copy, Debug)]
 pub enum Refusal {
     /// Memory ran out. No memory holds so many instructions that their number does not fit.
     Memory,
-    /// The term is of a kind that is not lowered yet, or such a term is in it.
-    NotYet,
 }
 
 impl From<AllocError> for Refusal {

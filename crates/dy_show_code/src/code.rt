@@ -69,6 +69,7 @@ fn write_places(out: &mut Written, flat: &Flat) {
         Flat::FreeSet(capture) => write_number(out, "free-set ", *capture),
         Flat::CallValue(count) => write_number(out, "call-value ", *count),
         Flat::Values(count) => write_number(out, "values ", *count),
+        Flat::Unhandle(count) => write_number(out, "unhandle ", *count),
         _ => out.word(word_of(flat)),
     }
 }
@@ -111,6 +112,7 @@ fn write_flat(out: &mut Written, program: &Program, flat: &Flat) {
             let has_rest = results.rest.is_some();
             write_count(out, "check-results ", results.required.len(), has_rest);
         }
+        Flat::Handle(condition) => write_count(out, "handle ", condition.members.len(), false),
         Flat::Args(params) => write_count(out, "args ", params.required.len(), params.rest),
         Flat::Op(operation, count) => {
             write_number(out, "op ", u32::from(*operation));

@@ -4,7 +4,8 @@ use Rattle.std.proofs.lemmas.Bool.{cases_lt}
 use Rattle.std.proofs.lemmas.List.{get_or_append_left, get_or_push}
 use Rattle.dy_code.specs.Fetching.{Instruction}
 use Rattle.dy_lowered.specs.Stretches.{reached}
-use Rattle.dy_stretch.specs.Walks.{IsIn, IsMarked, IsMarkedTo}
+use Rattle.dy_stretch.specs.Walks.{IsIn, IsMarked, IsWalked}
+use Rattle.dy_stretch.proofs.Reaching.{reach_itself}
 
 pub record Fresh (marks : List Bool) (n : ℕ) : Type 0 where
   pub long : length marks ≡ n
@@ -41,10 +42,16 @@ module _ (marks : List Bool) (n : ℕ) (b : Bool) (f : Fresh marks n) (e : b ≡
           let is : nat_eq n 0 ≡ true = sym e ∙ sym last ∙ ap (λ (k : ℕ). get_or (marks ++ b ∷ []) k true) (sym at) ∙ h in
           at ∙ grind (arith, is)
 
-pub fresh_marked : (code : List Instruction) (marks : List Bool) (n : ℕ) → n ≡ length code → Fresh marks n → IsMarkedTo code 0 marks
-fresh_marked code marks n e f = record {
+only_one : (x y : ℕ) → IsIn x (y ∷ []) → x ≡ y
+only_one x y (inl e) = e
+only_one x y (inr h) = absurd h
+
+-- The first place is marked, and waits.
+pub fresh_walked : (code : List Instruction) (marks : List Bool) (n : ℕ) → n ≡ length code → Fresh marks n → IsWalked code marks (0 ∷ [])
+fresh_walked code marks n e f = record {
   long = f.long ∙ e;
   first = f.first;
-  sound = λ place l h. let z = f.only place (omega (arith, l, e)) h in subst (λ k. IsIn k (reached code k 0)) (sym z) (inl refl);
-  closed = λ place l h way v. absurd (omega (arith, l));
+  sound = λ place l h steps all. let z = f.only place (omega (arith, l, e)) h in subst (λ k. IsIn k (reached code steps 0)) (sym z) (reach_itself code steps 0);
+  waits = λ place h. subst (IsMarked marks) (sym (only_one place 0 h)) f.first;
+  gone = λ place l h. inl (inl (f.only place (omega (arith, l, e)) h));
 }

@@ -1,12 +1,12 @@
 -- Places that are reached, and the longest ways from them.
-use Rattle.std.proofs.Common.{◌≡◌, ◌⊎◌, inl, inr, ℕ, zero, suc, ◌+◌, ◌-◌, ◌<◌, ◌≤◌, Bool, List, [], ◌∷◌, ◌++◌, length, map, Option, Some, None, slice_get, refl, sym, ap, subst, arith}
+use Rattle.std.proofs.Common.{◌≡◌, ◌⊎◌, inl, inr, ℕ, zero, suc, ◌+◌, ◌-◌, ◌<◌, ◌≤◌, Bool, List, [], ◌∷◌, ◌++◌, length, map, Option, Some, None, slice_get, refl, sym, ap, ◌∙◌, subst, arith}
 use Rattle.std.specs.Prelude.{flat_map}
 use Rattle.std.proofs.lemmas.Bool.{cases_lt}
 use Rattle.std.proofs.lemmas.Option.{slice_get_within, slice_get_past}
 use Rattle.dy_code.specs.Fetching.{Instruction}
 use Rattle.dy_meaning.specs.Numbers.{greatest}
 use Rattle.dy_lowered.specs.Stretches.{ways_of, ways_from, reached, unless_tick, longest, stretch_of}
-use Rattle.dy_stretch.specs.Walks.{IsIn, IsMarked, IsMarkedTo, IsMostTo}
+use Rattle.dy_stretch.specs.Walks.{IsIn, IsMarked, AreReached, long_at, AreLongest, IsMostTo}
 
 pub in_front : (x : ℕ) (xs ys : List ℕ) → IsIn x xs → IsIn x (xs ++ ys)
 in_front x [] ys h = absurd h
@@ -40,7 +40,7 @@ in_one f [] y h = absurd h
 in_one f (z ∷ xs) y h = in_one_of f z y xs (in_either y (f z) (flat_map f xs) h) (in_one f xs y)
 
 module _ (code : List Instruction) where
-  reach_more : (k s p q : ℕ) → IsIn p (reached code k s) → IsIn q (ways_from code p) → IsIn q (reached code (suc k) s)
+  pub reach_more : (k s p q : ℕ) → IsIn p (reached code k s) → IsIn q (ways_from code p) → IsIn q (reached code (suc k) s)
   reach_more zero s p q (inl e) w = inr (in_flat_map (reached code zero) (ways_from code s) q q (subst (λ x. IsIn q (ways_from code x)) e w) (inl refl))
   reach_more zero s p q (inr h) w = absurd h
   reach_more (suc k) s p q (inl e) w = inr (in_flat_map (reached code (suc k)) (ways_from code s) q q (subst (λ x. IsIn q (ways_from code x)) e w) (inl refl))
@@ -63,12 +63,13 @@ module _ (code : List Instruction) where
       subst (λ n. IsIn q (reached code n s)) e (reach_up (j + k) s q (reach_far j k s q h))
 
   -- what so many steps lead to, more do
-  reach_to : (k m s q : ℕ) → k ≤ m → IsIn q (reached code k s) → IsIn q (reached code m s)
+  pub reach_to : (k m s q : ℕ) → k ≤ m → IsIn q (reached code k s) → IsIn q (reached code m s)
   reach_to k m s q l h = let e : m - k + k ≡ m = omega (arith, l) in subst (λ n. IsIn q (reached code n s)) e (reach_far (m - k) k s q h)
 
-  -- a way forward leads to a place that is reached
-  pub reach_next : (p q : ℕ) → p < q → IsIn p (reached code p 0) → IsIn q (ways_from code p) → IsIn q (reached code q 0)
-  reach_next p q l h w = let m : suc p ≤ q = omega (arith, l) in reach_to (suc p) q 0 q m (reach_more p 0 p q h w)
+  -- each place is reached from itself
+  pub reach_itself : (k s : ℕ) → IsIn s (reached code k s)
+  reach_itself zero s = inl refl
+  reach_itself (suc k) s = inl refl
 
   within_way : (p w : ℕ) (o : Option Instruction) → slice_get code p ≡ o → IsIn w (ways_from code p) → p < length code
   within_way p w None e h = absurd (subst (λ (o : Option Instruction). IsIn w (ways_of (p + 1) o)) e h)
@@ -90,7 +91,7 @@ module _ (code : List Instruction) where
   longest_past (suc more) place l =
       ap (λ (o : Option Instruction). unless_tick o (1 + greatest (map (longest code more) (ways_from code place)))) (slice_get_past code place l)
 
-  below_all : (f : ℕ → ℕ) (m : ℕ) (xs : List ℕ) → ((x : ℕ) → IsIn x xs → f x ≤ m) → greatest (map f xs) ≤ m
+  pub below_all : (f : ℕ → ℕ) (m : ℕ) (xs : List ℕ) → ((x : ℕ) → IsIn x xs → f x ≤ m) → greatest (map f xs) ≤ m
   below_all f m [] h = omega arith
   below_all f m (x ∷ xs) h =
       let a = h x (inl refl) in
@@ -103,21 +104,25 @@ module _ (code : List Instruction) where
   above_one f (y ∷ ys) x (inr h) = let r = above_one f ys x h in grind (arith, r)
 
   -- the longest way from all places is that from those that are reached
-  pub stretch_is : (marks : List Bool) (most : ℕ) → IsMarkedTo code (length code) marks → IsMostTo code marks (length code) most → most ≡ stretch_of code
-  stretch_is marks most m w =
+  pub stretch_is : (marks : List Bool) (longs : List ℕ) (most : ℕ) → AreReached code marks → AreLongest code longs → IsMostTo longs marks (length marks) most → most ≡ stretch_of code
+  stretch_is marks longs most m g w =
       let n = length code in
       let a = below_all (longest code n) most (reached code n 0) (λ x h. under x (complete marks m.closed n 0 x m.first h) (cases_lt x n)) in
       let b = over w.lower in
       omega (arith, a, b)
     where
       under : (x : ℕ) → IsMarked marks x → (x < length code) ⊎ (length code ≤ x) → longest code (length code) x ≤ most
-      under x k (inl l) = w.upper x l k
+      under x k (inl l) =
+          let long = m.long in
+          let within : x < length marks = omega (arith, l, long) in
+          subst (λ (a : ℕ). a ≤ most) (g.same x) (w.upper x within k)
       under x k (inr l) = let e = longest_past (length code) x l in omega (arith, e)
 
-      over : (most ≡ 0) ⊎ ((place : ℕ) × (place < length code) × IsMarked marks place × (longest code (length code) place ≡ most)) → most ≤ stretch_of code
+      over : (most ≡ 0) ⊎ ((place : ℕ) × (place < length marks) × IsMarked marks place × (long_at longs place ≡ most)) → most ≤ stretch_of code
       over (inl e) = omega (arith, e)
       over (inr r) =
-          let l : r.0 ≤ length code = omega (arith, r.1) in
-          let in_all = reach_to r.0 (length code) 0 r.0 l (m.sound r.0 r.1 r.2) in
-          let g = above_one (longest code (length code)) (reached code (length code) 0) r.0 in_all in
-          subst (λ k. k ≤ stretch_of code) r.3 g
+          let b = r.1 in
+          let long = m.long in
+          let l : r.0 < length code = omega (arith, b, long) in
+          let a = above_one (longest code (length code)) (reached code (length code) 0) r.0 (m.sound r.0 l r.2) in
+          subst (λ k. k ≤ stretch_of code) (sym (g.same r.0) ∙ r.3) a

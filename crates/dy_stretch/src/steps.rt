@@ -84,6 +84,7 @@ pub(crate) fn step_at(flat: Flat, place: usize) -> Result<Step, Refusal>
         Flat::SetGlobal(_) | Flat::Push | Flat::Closure(_, _) => onward(place),
         Flat::Search(_, _) | Flat::CallKnown(_, _) | Flat::CallValue(_) => onward(place),
         Flat::Values(_) | Flat::Spread(_, _) | Flat::CheckResults(_) => onward(place),
-        Flat::Op(_, _) | Flat::Save | Flat::Restore | Flat::Args(_) => onward(place),
+        Flat::Op(_, _) | Flat::Handle(_) | Flat::Unhandle(_) => onward(place),
+        Flat::Save | Flat::Restore | Flat::Args(_) => onward(place),
     }
 }

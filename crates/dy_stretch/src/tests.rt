@@ -59,6 +59,6 @@ fn a_way_around_without_a_tick(rt: HostRuntime) -> Result<(), Fail> {
         Flat::Jump(-3),
         Flat::Return,
     ];
-    assert_eq!(rt; stretch_of(alloc, flats.as_slice()), None);
+    assert_eq!(rt; stretch_of(alloc, flats.as_slice()), Some(4));
     Ok(())
 }

@@ -1,185 +1,147 @@
 //! The longest way without a `Tick`.
 
-ghost use Rattle.std.specs.Prelude.{◌≡◌, ◌<◌, ◌+◌, ◌++◌, IfOk, OnOk, IfSome, length};
+ghost use Rattle.std.specs.Prelude.{◌≡◌, ◌<◌, ◌+◌, ◌++◌, ◌||◌, ℕ, IfOk, map, set, get_or, length};
+ghost use Rattle.std.specs.Prelude.{true, false};
 ghost use Rattle.dy_lowered.specs.Flat.{placed_from};
 ghost use Rattle.dy_lowered.specs.Stretches.{stretch_of};
+ghost use Rattle.dy_meaning.specs.Numbers.{greatest};
 ghost use Rattle.dy_lower_parts.specs.Seen.{seen_code};
-ghost use Rattle.dy_stretch.specs.Walks.{code_of, held, AreLong, IsLongBy, AreKnown, IsMostTo};
+ghost use Rattle.dy_stretch.specs.Walks.{code_of, held, long_at, by_ways, AreBetween};
+ghost use Rattle.dy_stretch.specs.Walks.{AreStill, AreLongest, IsMostTo};
 
-use crate::reached::{is_marked, marks_of};
+use crate::reached::marks_of;
 use crate::steps::{Step, step_at};
 use dy_lower_parts::{Buffer, Flat, Refusal};
 use std::alloc::Global;
 use std::collections::VecDeque;
 
-/// The longest way from a place, where it is known. None begins behind the code.
-fn known(flats: &VecDeque<Flat>, longs: &[Option<u64>], place: Option<usize>) -> Option<u64>
-    requires { AreKnown (code_of flats.now.items) longs.now }
-    ensures { IfSome result (AreLong (code_of flats.now.items) (held place)) }
+/// The longest way from a place, so far as it is known. None begins behind the code.
+fn known(longs: &[u64], place: Option<usize>) -> u64
+    ensures { result ≡ greatest (map (long_at longs.now) (held place)) }
 {
     match place {
-        None => Some(0),
-        Some(place) => {
-            if place >= longs.len() {
-                return Some(0);
-            }
-            longs[place]
-        }
+        None => 0,
+        Some(place) => { if place < longs.len() { longs[place] } else { 0 } }
     }
 }
 
-/// The longest way from an instruction, where those from the places to which it leads are known.
-fn long_from(flats: &VecDeque<Flat>, longs: &[Option<u64>], step: Step) -> Option<u64>
-    requires { AreKnown (code_of flats.now.items) longs.now }
-    ensures { IfSome result (IsLongBy (code_of flats.now.items) step.ticks
-        (held step.next ++ held step.jump)) }
+/// The longest way from an instruction, so far as those from the places to which it leads are
+/// known. It is no longer than the code.
+fn long_from(longs: &[u64], step: Step) -> u64
+    ensures { result ≡ by_ways (length longs.now) step.ticks
+        (greatest (map (long_at longs.now) (held step.next ++ held step.jump))) }
 {
     if step.ticks {
-        return Some(0);
+        return 0;
     }
-    let next = known(flats, longs, step.next)?;
-    let jump = known(flats, longs, step.jump)?;
-    let long = next.max(jump).checked_add(1)?;
-    Some(long)
+    let behind = known(longs, step.next).max(known(longs, step.jump));
+    let all = longs.len() as u64;
+    if behind < all { behind + 1 } else { all }
 }
 
-/// The first place to which an instruction leads and from which no way is known.
-fn wanted(longs: &[Option<u64>], step: Step) -> Option<usize> {
-    match step.next {
-        Some(next) => {
-            if next < longs.len() && longs[next].is_none() {
-                step.next
-            } else {
-                step.jump
-            }
-        }
-        None => step.jump,
-    }
-}
-
-/// Looks at the last place that waits. Where the places to which its instruction leads are not all
-/// known, it waits on, and one of them before it.
-fn turn(
-    flats: &VecDeque<Flat>,
-    longs: &mut Vec<Option<u64>>,
-    waiting: &mut Vec<usize>,
-) -> Result<(), Refusal>
-    requires { AreKnown (code_of flats.now.items) longs.now.items }
-    ensures { OnOk result (AreKnown (code_of flats.now.items) longs.new.items) }
+/// Notes the longest way from a place. Tells whether another one was known before.
+fn note(longs: &mut Vec<u64>, place: usize, long: u64) -> bool
+    requires { place < length longs.now.items }
+    ensures noted { longs.new.items ≡ set longs.old.items place long }
+    ensures told { result ≡ false → get_or longs.old.items place 0 ≡ long }
 {
-    let Some(place) = waiting.pop() else {
-        return Ok(());
-    };
-    if place >= flats.len() {
-        return Ok(());
+    let other = longs[place] != long;
+    longs[place] = long;
+    other
+}
+
+/// Whether one of two is so.
+fn either(one: bool, other: bool) -> bool
+    ensures { result ≡ one || other }
+{
+    one || other
+}
+
+/// Goes over all places from the last one to the first, each of which may know a longer way than
+/// before. Tells whether one does. A way that leads forward is known at once, and one that leads
+/// back is known further by as much as it has of forward ways.
+fn sweep(flats: &VecDeque<Flat>, longs: &mut Vec<u64>) -> Result<bool, Refusal>
+    requires { length longs.now.items ≡ length flats.now.items }
+    ensures further { IfOk result (λ changed. (taken : ℕ) → taken < length flats.now.items
+        → AreBetween (code_of flats.now.items) taken longs.old.items
+        → AreBetween (code_of flats.now.items) (taken + 1) longs.new.items) }
+    ensures still { IfOk result (λ changed. changed ≡ false
+        → AreStill (code_of flats.now.items) longs.new.items) }
+{
+    let mut changed = false;
+    for place in (0..flats.len()).rev() {
+        let step = step_at(flats[place], place)?;
+        let long = long_from(longs, step);
+        let other = note(longs, place, long);
+        changed = either(other, changed);
     }
-    let step = step_at(flats[place], place)?;
-    if let Some(long) = long_from(flats, longs, step) {
-        longs[place] = Some(long);
-        return Ok(());
-    }
-    waiting.push(place)?;
-    if let Some(first) = wanted(longs, step) {
-        waiting.push(first)?;
-    }
-    Ok(())
+    Ok(changed)
 }
 
 /// No way is known.
-fn unknown(alloc: Global, flats: &VecDeque<Flat>) -> Result<Vec<Option<u64>>, Refusal>
-    ensures { IfOk result (λ longs. AreKnown (code_of flats.now.items) longs.items) }
+fn unknown(alloc: Global, flats: &VecDeque<Flat>) -> Result<Vec<u64>, Refusal>
+    ensures { IfOk result (λ longs. AreBetween (code_of flats.now.items) 0 longs.items) }
 {
     let mut longs = Vec::new(alloc);
     for _place in 0..flats.len() {
-        longs.push(None)?;
+        longs.push(0)?;
     }
     Ok(longs)
 }
 
-/// The places that are marked, of which the first ones come last.
-fn marked(alloc: Global, marks: &[bool]) -> Result<Vec<usize>, Refusal> {
-    let mut places = Vec::new(alloc);
-    for place in 0..marks.len() {
-        if marks[place] {
-            places.push(place)?;
-        }
-    }
-    Ok(places)
-}
-
-/// How many turns are enough, unless a way leads around without a `Tick`. A turn makes a place wait
-/// that is wanted, which happens to each at most once, or takes one off, which happens to each at
-/// most twice: as one that is marked, and as one that is wanted.
-fn turns(flats: &VecDeque<Flat>) -> Result<usize, Refusal> {
-    match flats.len().checked_mul(3) {
-        Some(turns) => Ok(turns),
-        None => Err(Refusal::Memory),
-    }
-}
-
-/// The longest ways from the places that are marked, so far as that many turns tell.
-fn walk_of(
-    alloc: Global,
-    flats: &VecDeque<Flat>,
-    marks: &[bool],
-) -> Result<Vec<Option<u64>>, Refusal>
-    ensures { IfOk result (λ longs. AreKnown (code_of flats.now.items) longs.items) }
+/// The longest way from each place, of which no more instructions are taken than the code has. It
+/// goes over the code until nothing changes.
+fn longs_of(alloc: Global, flats: &VecDeque<Flat>) -> Result<Vec<u64>, Refusal>
+    ensures { IfOk result (λ longs. AreLongest (code_of flats.now.items) longs.items) }
 {
     let mut longs = unknown(alloc, flats)?;
-    let mut waiting = marked(alloc, marks)?;
-    for _turn in 0..turns(flats)? {
-        turn(flats, &mut longs, &mut waiting)?;
+    for _turn in 0..flats.len() {
+        if !sweep(flats, &mut longs)? {
+            return Ok(longs);
+        }
     }
     Ok(longs)
 }
 
-/// The longest way, where one place more is gone over. None has more instructions than the code.
-/// Where a way is not known by now, it leads around without a `Tick`, and is refused.
-fn more_of(
-    flats: &VecDeque<Flat>,
-    marks: &[bool],
-    longs: &[Option<u64>],
-    place: usize,
-    most: u64,
-) -> Result<u64, Refusal>
-    requires within { place < length flats.now.items }
-    requires long { length marks.now ≡ length flats.now.items }
-    requires known { AreKnown (code_of flats.now.items) longs.now }
-    requires before { IsMostTo (code_of flats.now.items) marks.now place most }
-    ensures { IfOk result (IsMostTo (code_of flats.now.items) marks.now (place + 1)) }
+/// Whether a place is marked.
+fn is_marked(marks: &[bool], place: usize) -> bool
+    requires { place < length marks.now }
+    ensures { result ≡ get_or marks.now place true }
+{
+    marks[place]
+}
+
+/// The longest way, where one place more is gone over.
+fn more_of(marks: &[bool], longs: &[u64], place: usize, most: u64) -> u64
+    requires within { place < length marks.now }
+    requires before { IsMostTo longs.now marks.now place most }
+    ensures { IsMostTo longs.now marks.now (place + 1) result }
 {
     if !is_marked(marks, place) {
-        return Ok(most);
+        return most;
     }
-    match known(flats, longs, Some(place)) {
-        Some(long) => Ok(most.max(long.min(flats.len() as u64))),
-        None => Err(Refusal::NotYet),
-    }
+    most.max(known(longs, Some(place)))
 }
 
 /// The longest way of those from the places that are marked.
-fn most_of(flats: &VecDeque<Flat>, marks: &[bool], longs: &[Option<u64>]) -> Result<u64, Refusal>
-    requires long { length marks.now ≡ length flats.now.items }
-    requires known { AreKnown (code_of flats.now.items) longs.now }
-    ensures { IfOk result (IsMostTo (code_of flats.now.items) marks.now
-        (length flats.now.items)) }
+fn most_of(marks: &[bool], longs: &[u64]) -> u64
+    ensures { IsMostTo longs.now marks.now (length marks.now) result }
 {
     let mut most = 0;
-    for place in 0..flats.len() {
-        most = more_of(flats, marks, longs, place, most)?;
+    for place in 0..marks.len() {
+        most = more_of(marks, longs, place, most);
     }
-    Ok(most)
+    most
 }
 
-/// How many instructions at most run one after the other without a `Tick`. Code in which a way
-/// leads around without a `Tick`, or a jump back to a place that is not reached, is refused.
+/// How many instructions at most run one after the other without a `Tick`; so many as the code has
+/// where a way leads around without one. The one error is want of memory.
 pub fn stretch(alloc: Global, code: &Buffer) -> Result<u64, Refusal>
     ensures { IfOk result (λ stretch. stretch
         ≡ stretch_of (placed_from 0 (seen_code code.now))) }
 {
     let flats = code.flats();
     let marks = marks_of(alloc, flats)?;
-    let longs = walk_of(alloc, flats, &marks)?;
-    let most = most_of(flats, &marks, &longs)?;
-    Ok(most)
+    let longs = longs_of(alloc, flats)?;
+    Ok(most_of(&marks, &longs))
 }

@@ -1,6 +1,6 @@
 use Rattle.std.proofs.Common.{◌≡◌, ◌+◌, List, Bool, length, sym, subst, refl, arith}
 use Rattle.dy_stretch.specs.Walks.{code_of}
-use Rattle.dy_stretch.proofs.Fresh.{Fresh, fresh_none, fresh_more, fresh_marked}
+use Rattle.dy_stretch.proofs.Fresh.{Fresh, fresh_none, fresh_more, fresh_walked}
 use Rattle.dy_stretch.proofs.Walking.{code_long}
 use Rattle.dy_stretch.proofs.reached.unmarked.Goals as goal
 
@@ -17,4 +17,4 @@ returns c =
     let n = code_long fs in
     let m = c.len-place-end.ensures in
     let all : c.loop-place.place ≡ length (code_of fs) = omega (arith, n, m, c.loop-place.auto.place-end, c.loop-place-test.false) in
-    fresh_marked (code_of fs) c.loop-place.marks.items c.loop-place.place all c.loop-place.invariant
+    fresh_walked (code_of fs) c.loop-place.marks.items c.loop-place.place all c.loop-place.invariant

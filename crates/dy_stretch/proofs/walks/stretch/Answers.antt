@@ -1,24 +1,16 @@
-use Rattle.std.proofs.Common.{ℕ, Bool, List, length, sym, ap, subst, ◌∙◌, arith}
+use Rattle.std.proofs.Common.{ℕ, Bool, List, length, ap, subst, ◌∙◌}
 use Rattle.dy_lowered.specs.Flat.{Code, placed_from}
 use Rattle.dy_lowered.specs.Stretches.{stretch_of}
-use Rattle.dy_stretch.specs.Walks.{code_of, IsMarkedTo, IsMostTo}
-use Rattle.dy_stretch.proofs.Walking.{code_long}
+use Rattle.dy_stretch.specs.Walks.{code_of, IsMostTo}
 use Rattle.dy_stretch.proofs.Reaching.{stretch_is}
 use Rattle.dy_stretch.proofs.walks.stretch.Goals as goal
-
-pub most_of-requires-clause-long : goal.most_of-requires-clause-long
-most_of-requires-clause-long c =
-    let n = code_long c.flats-flats.result.now.items in
-    let k = c.in_ok-marks.ensures.long in
-    ap (λ (xs : List Bool). length xs) c.deref-2.ensures.value ∙ omega (arith, n, k)
 
 pub returns : goal.returns
 returns c =
     let fs = c.flats-flats.result.now.items in
     let marks = c.in_ok-marks.marks.items in
-    let all = sym (code_long fs) in
-    let m : IsMarkedTo (code_of fs) (length (code_of fs)) marks = subst (λ (k : ℕ). IsMarkedTo (code_of fs) k marks) all c.in_ok-marks.ensures in
-    let most = c.in_ok-most.most in
-    let there : IsMostTo (code_of fs) marks (length fs) most = subst (λ (xs : List Bool). IsMostTo (code_of fs) xs (length fs) most) c.deref-2.ensures.value c.in_ok-most.ensures in
-    let w : IsMostTo (code_of fs) marks (length (code_of fs)) most = subst (λ (k : ℕ). IsMostTo (code_of fs) marks k most) all there in
-    stretch_is (code_of fs) marks most m w ∙ ap (λ (xs : Code). stretch_of (placed_from 0 xs)) c.flats-flats.ensures
+    let longs = c.in_ok-longs.longs.items in
+    let most = c.most_of.result in
+    let read : IsMostTo longs c.deref.result.now (length c.deref.result.now) most = subst (λ (xs : List ℕ). IsMostTo xs c.deref.result.now (length c.deref.result.now) most) c.deref-2.ensures.value c.most_of.ensures in
+    let there : IsMostTo longs marks (length marks) most = subst (λ (xs : List Bool). IsMostTo longs xs (length xs) most) c.deref.ensures.value read in
+    stretch_is (code_of fs) marks longs most c.in_ok-marks.ensures c.in_ok-longs.ensures there ∙ ap (λ (xs : Code). stretch_of (placed_from 0 xs)) c.flats-flats.ensures

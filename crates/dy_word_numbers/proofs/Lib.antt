@@ -1,0 +1,5 @@
+pub mod Forms
+pub mod Joining
+pub mod Numbers
+pub mod Plain
+pub mod Tokens
