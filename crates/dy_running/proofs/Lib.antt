@@ -1,0 +1,4 @@
+pub mod Codes
+pub mod Courses
+pub mod Lending
+pub mod Telling
