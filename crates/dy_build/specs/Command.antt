@@ -2,19 +2,23 @@
 use Rattle.std.specs.Prelude.{◌≡◌, ℕ, ◌⊎◌, List, [], Option, Some, None}
 use Rattle.std.specs.List.{concat}
 use Rattle.std.specs.Io.KnownBytes.{Appends}
+use Rattle.dy_term.specs.declared.rows.LibraryRow.{LibraryRow}
 use Rattle.dy_base.specs.declared.kind.Kind.TheVariants.{NoFile}
 use Rattle.dy_io.specs.Causes.{Rose}
 use Rattle.dy_io.specs.Sinks.{AppendsFront}
+use Rattle.dy_values.specs.declared.answer.RunEnd.{RunEnd}
+use Rattle.dy_values.specs.declared.answer.RunEnd.TheVariants as ends
+use Rattle.dy_outcome.specs.States.{Outcome}
 use Rattle.dy_sources.specs.declared.refused.Refused.{Refused}
-use Rattle.dy_engine.specs.declared.execute.RunEnd.{RunEnd}
-use Rattle.dy_engine.specs.declared.execute.RunEnd.TheVariants as ends
 use Rattle.dy_sources.specs.Refusals.{refusal_line}
-use Rattle.dy_build.specs.Lines.{file_fault_line, unhandled_line, out_of_fuel_line}
-use Rattle.dy_engine.specs.Machine.{Final, Finished, Failed, OutOfFuel, Unfinished}
+use Rattle.dy_build.specs.Lines.{file_fault_line, end_line, out_of_fuel_line}
 use Rattle.dy_io.specs.Files.{FileMap}
 use Rattle.dy_build.specs.Words.{Build}
-use Rattle.dy_sources.specs.Judged.{NamesFile}
-use Rattle.dy_build.specs.Outcome.{Report, IsOutcome}
+use Rattle.dy_meaning.specs.Programs.{program_meaning}
+use Rattle.dy_assembly.specs.Libraries.{program_with}
+use Rattle.dy_sources.specs.Judged.{NamesFile, IsAccepted}
+use Rattle.dy_sources.specs.Verdicts.{Verdict}
+use Rattle.dy_build.specs.Outcome.{Report, Reports, Builds, IsOutcome}
 
 -- The line was sent and the status is the given one; or the sink or memory failed, and a front of
 -- it was sent.
@@ -23,23 +27,13 @@ PutsLine status line result old new =
     ((result ≡ status) × Appends old new line)
     ⊎ (((result ≡ 5) ⊎ (result ≡ 6)) × AppendsFront old new line)
 
--- the report of a run that the machine ended so
-abbrev pub final_report : Final → Report
-final_report (Finished state) = record { status = 0; out = concat state.pieces; err = [] }
-final_report (Failed error state) =
-    record { status = 1; out = concat state.pieces; err = unhandled_line error }
-final_report (OutOfFuel state) =
-    record { status = 7; out = concat state.pieces; err = out_of_fuel_line }
-final_report (Unfinished state) = record { status = 7; out = concat state.pieces; err = [] }
-
--- what closing a run that ended so does to the error output
-abbrev pub Closes : RunEnd → Final → ℕ → Option (List ℕ) → Option (List ℕ) → Type 0
-Closes ends.WriteFault final result old new = (result ≡ 5)
-    × AppendsFront old new (final_report final).err
-Closes ends.NoMemory final result old new = (result ≡ 6)
-    × AppendsFront old new (final_report final).err
-Closes _ final result old new =
-    PutsLine (final_report final).status (final_report final).err result old new
+-- What closing a run that ended so does to the error output: its last line is sent, if it has one.
+abbrev pub Closes : RunEnd → ℕ → Option (List ℕ) → Option (List ℕ) → Type 0
+Closes ends.Finished result old new = (result ≡ 0) × (new ≡ old)
+Closes (ends.Signalled line) result old new = PutsLine 1 (end_line line) result old new
+Closes ends.OutOfFuel result old new = PutsLine 7 out_of_fuel_line result old new
+Closes ends.WriteFault result old new = (result ≡ 5) × (new ≡ old)
+Closes ends.NoMemory result old new = (result ≡ 6) × (new ≡ old)
 
 -- what the output and the error output held before and hold now
 pub record Outputs : Type 0 where
@@ -78,6 +72,15 @@ Finishes report result outputs =
     ((result ≡ report.status) × Sent report outputs)
     ⊎ (((result ≡ 5) ⊎ (result ≡ 6)) × SentFront report outputs)
 
+-- so of what a program comes to that does this, and of what a verdict comes to
+abbrev pub RunsAs : Outcome → ℕ → Outputs → Type 0
+RunsAs outcome result outputs =
+    (report : Report) × Reports outcome report × Finishes report result outputs
+
+abbrev pub BuildsAs : ℕ → Verdict → ℕ → Outputs → Type 0
+BuildsAs fuel verdict result outputs =
+    (report : Report) × Builds fuel verdict report × Finishes report result outputs
+
 -- A refusal was told by its line, and nothing went to the output. An absent file is told only where
 -- the misses rose.
 abbrev pub Refuses : ℕ → ℕ → Outputs → Type 0
@@ -112,3 +115,18 @@ Outcomes words files result outputs = (report : Report) × IsOutcome words files
 abbrev pub CutsShort : List (List ℕ) → FileMap → Outputs → Type 0
 CutsShort words files outputs = Nothing outputs
     ⊎ ((report : Report) × IsOutcome words files report × SentFront report outputs)
+
+-- the statuses of a run that ended: by itself, by a condition, or for want of a unit
+abbrev pub IsEnded : ℕ → Type 0
+IsEnded status = (status ≡ 0) ⊎ ((status ≡ 1) ⊎ (status ≡ 7))
+
+-- Two texts came to a library, and all was sent that its program comes to with so many units.
+abbrev pub RunsAccepted : ℕ → ℕ → Outputs → Type 0
+RunsAccepted fuel result outputs = (library : LibraryRow) × IsAccepted library
+    × (report : Report) × Reports (program_meaning (program_with library) fuel) report
+    × Done report result outputs
+
+-- the same with the fuel that the words name
+abbrev pub RunsAcceptedOf : Option Build → ℕ → Outputs → Type 0
+RunsAcceptedOf None result outputs = ⊥
+RunsAcceptedOf (Some command) result outputs = RunsAccepted command.fuel result outputs

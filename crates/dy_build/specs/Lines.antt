@@ -5,9 +5,9 @@ use Rattle.std.specs.Prelude.{ℕ, List, ◌++◌, codes}
 abbrev pub file_fault_line : List ℕ → List ℕ
 file_fault_line name = codes "file fault: " ++ name ++ codes "\n"
 
--- a run ended with an error that nothing handled
-abbrev pub unhandled_line : List ℕ → List ℕ
-unhandled_line text = codes "unhandled <simple-error>: " ++ text ++ codes "\n"
+-- a run ended by a condition that nothing handled, of which this is told
+abbrev pub end_line : List ℕ → List ℕ
+end_line text = text ++ codes "\n"
 
 -- a run spent all its fuel
 abbrev pub out_of_fuel_line : List ℕ

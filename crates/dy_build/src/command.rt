@@ -4,26 +4,28 @@ ghost use Rattle.std.specs.Prelude.{◌≡◌, ◌≢◌, ◌≤◌, ◌⊎◌, 
 ghost use Rattle.std.specs.Prelude.{string_bytes};
 ghost use Rattle.dy_io.specs.Causes.{Rose};
 ghost use Rattle.dy_io.specs.Files.{FileMap};
-ghost use Rattle.dy_runnable.specs.Core.{seen_program};
-ghost use Rattle.dy_engine.specs.Meaning.{program_meaning};
-ghost use Rattle.dy_engine.specs.Machine.{Final};
-ghost use Rattle.dy_engine.specs.Endings.{EndsAs};
+ghost use Rattle.dy_io.specs.Sinks.{AppendsFront};
+ghost use Rattle.dy_meaning.specs.Programs.{program_meaning};
+ghost use Rattle.dy_assembly.specs.Libraries.{program_with};
+ghost use Rattle.dy_sources.specs.Judged.{IsAccepted};
+ghost use Rattle.dy_sources.specs.Points.{point_behind, point_at};
 ghost use Rattle.dy_sources.specs.Refusals.{refusal_line};
 ghost use Rattle.dy_sources.specs.Verdicts.{Verdict, IsVerdict};
-ghost use Rattle.dy_build.specs.Outcome.{run_report, build_report, usage_report};
-ghost use Rattle.dy_build.specs.Command.{PutsLine, Closes, Finishes, Refuses, TellsFault};
+ghost use Rattle.dy_build.specs.Outcome.{usage_report};
+ghost use Rattle.dy_build.specs.Command.{PutsLine, Closes, RunsAs, BuildsAs, Refuses, TellsFault};
 ghost use Rattle.dy_build.specs.Command.{TellsFaultOf, Done, Nothing, Outcomes, CutsShort, outputs};
+ghost use Rattle.dy_build.specs.Command.{IsEnded, RunsAccepted, RunsAcceptedOf};
 ghost use Rattle.dy_build.specs.Words.{build_of};
-ghost use Rattle.dy_sources.specs.Points.{point_behind, point_at};
 ghost use Rattle.dy_build.specs.Lines.{file_fault_line};
-ghost use Rattle.dy_io.specs.Sinks.{AppendsFront};
 
-use crate::lines::{file_fault_line, out_of_fuel_line, unhandled_line};
+use crate::lines::{end_line, file_fault_line, out_of_fuel_line};
 use crate::words::{BuildCommand, build_words, usage};
-use dy_engine::{RunEnd, lower, run};
+use dy_assembly::program_with;
 use dy_io::{Files, Sink, WriteFail};
-use dy_runnable::Program;
-use dy_sources::{Halt, Refused, read_program, refusal_line};
+use dy_running::run_program;
+use dy_sources::{Halt, Refused, read_library, refusal_line};
+use dy_term::LibraryRow;
+use dy_values::RunEnd;
 use std::alloc::Global;
 
 /// Sends the last line of a command, and answers the status: the given one, or that of the failure.
@@ -41,15 +43,14 @@ fn put_line<E: Sink>(err: &mut E, line: &[u8], status: u8) -> u8
 
 /// Sends the last line of a run that ended so, if it has one, and answers the status.
 fn finish<E: Sink>(alloc: Global, end: RunEnd, err: &mut E) -> u8
-    ensures closes { (final : Final) → EndsAs end final
-        → Closes end final result (E.contents err.old) (E.contents err.new) }
+    ensures closes { Closes end result (E.contents err.old) (E.contents err.new) }
     ensures fault { result ≡ 5 → (end ≡ RunEnd.WriteFault)
         ⊎ Rose (E.faults err.old) (E.faults err.new) }
     ensures faults { E.faults err.old ≤ E.faults err.new }
 {
     match end {
         RunEnd::Finished => 0,
-        RunEnd::Signalled(text) => match unhandled_line(alloc, text.as_bytes()) {
+        RunEnd::Signalled(text) => match end_line(alloc, text.bytes()) {
             Ok(line) => put_line(err, &line, 1),
             Err(_) => 6,
         },
@@ -59,16 +60,16 @@ fn finish<E: Sink>(alloc: Global, end: RunEnd, err: &mut E) -> u8
     }
 }
 
-/// Lowers a program, and runs it with so many units of fuel.
-fn run_program<O: Sink, E: Sink>(
+/// Runs a library behind those that are built in, with so many units of fuel.
+fn run_library<O: Sink, E: Sink>(
     alloc: Global,
-    program: &Program,
+    library: LibraryRow,
     fuel: u64,
     out: &mut O,
     err: &mut E,
 ) -> u8
-    ensures finishes { Finishes
-        (run_report (program_meaning (seen_program program.now) fuel)) result
+    requires { IsAccepted library }
+    ensures runs { RunsAs (program_meaning (program_with library) fuel) result
         (outputs (O.contents out.old) (O.contents out.new) (E.contents err.old)
         (E.contents err.new)) }
     ensures fault { result ≡ 5 → Rose (O.faults out.old) (O.faults out.new)
@@ -76,10 +77,10 @@ fn run_program<O: Sink, E: Sink>(
     ensures out_faults { O.faults out.old ≤ O.faults out.new }
     ensures err_faults { E.faults err.old ≤ E.faults err.new }
 {
-    match lower(alloc, program) {
-        Ok(code) => {
-            let end = run(alloc, &code, fuel, out);
-            finish(alloc, end, err)
+    match program_with(alloc, library) {
+        Ok(program) => {
+            let ran = run_program(alloc, program, fuel, out, err);
+            finish(alloc, ran.end, err)
         }
         Err(_) => 6,
     }
@@ -127,11 +128,15 @@ fn build<F: Files, O: Sink, E: Sink>(
         ⊎ (((result ≡ 6) × Nothing
         (outputs (O.contents out.old) (O.contents out.new) (E.contents err.old)
         (E.contents err.new))) ⊎ ((verdict : Verdict) × IsVerdict held lid.now verdict
-        × Finishes (build_report fuel verdict) result
+        × BuildsAs fuel verdict result
         (outputs (O.contents out.old) (O.contents out.new) (E.contents err.old)
         (E.contents err.new)))) }
     ensures refused { result ≡ 2
         → Refuses (F.misses files.old) (F.misses files.new)
+        (outputs (O.contents out.old) (O.contents out.new) (E.contents err.old)
+        (E.contents err.new)) }
+    ensures ran { IsEnded result
+        → RunsAccepted fuel result
         (outputs (O.contents out.old) (O.contents out.new) (E.contents err.old)
         (E.contents err.new)) }
     ensures accepted { result ≢ 3 }
@@ -149,8 +154,8 @@ fn build<F: Files, O: Sink, E: Sink>(
     ensures out_faults { O.faults out.old ≤ O.faults out.new }
     ensures err_faults { E.faults err.old ≤ E.faults err.new }
 {
-    match read_program(alloc, files, lid) {
-        Ok(program) => run_program(alloc, &program, fuel, out, err),
+    match read_library(alloc, files, lid) {
+        Ok(library) => run_library(alloc, library, fuel, out, err),
         Err(Halt::Refused(why)) => refuse(alloc, &why, err),
         Err(Halt::FileFault(name)) => report_fault(alloc, name.bytes(), err),
         Err(Halt::Memory) => 6,
@@ -165,7 +170,7 @@ fn build<F: Files, O: Sink, E: Sink>(
 /// | status | comes | on `err` |
 /// |---|---|---|
 /// | 0 | the program ended | nothing |
-/// | 1 | the program ended by an error that nothing handled | `unhandled <simple-error>: TEXT` |
+/// | 1 | the program ended by a condition that nothing handled | `unhandled CLASS: TEXT` |
 /// | 2 | the library is refused | the line of the refusal |
 /// | 3 | the words are not accepted | the usage |
 /// | 4 | a file failed | `file fault: NAME` |
@@ -177,11 +182,12 @@ fn build<F: Files, O: Sink, E: Sink>(
 /// whole output was sent, or nothing. `NAME` is the LID file, or one of the source files that it
 /// names.
 ///
-/// Where the files do not tell what they hold, as those of the host do not, the clauses speak of
-/// statuses 2 to 5 alone. With 2 comes the line of a refusal, which says that a file is absent only
-/// where the files missed one; with 3 the usage, only where the words are not accepted; with 4 the
-/// line of the LID file or of a file of a printable name beside it, only where a file failed; and 5
-/// comes only where a sink failed. Of 0, 1 and 7 they say nothing.
+/// Where the files do not tell what they hold, as those of the host do not, the clauses tie no
+/// status to their texts. With 0, 1 and 7 all was sent that the program of a library comes to which
+/// some two texts were judged to be; with 2 comes the line of a refusal, which says that a file is
+/// absent only where the files missed one; with 3 the usage, only where the words are not accepted;
+/// with 4 the line of the LID file or of a file of a printable name beside it, only where a file
+/// failed; and 5 comes only where a sink failed.
 pub fn run_words<F: Files, O: Sink, E: Sink>(
     alloc: Global,
     words: &Vec<String>,
@@ -203,6 +209,10 @@ pub fn run_words<F: Files, O: Sink, E: Sink>(
         (E.contents err.old) (E.contents err.new)) }
 
     // Each status has its cause, whatever the files tell.
+    ensures ran { IsEnded result
+        → RunsAcceptedOf (build_of (map string_bytes words.now.items)) result
+        (outputs (O.contents out.old) (O.contents out.new)
+        (E.contents err.old) (E.contents err.new)) }
     ensures refused { result ≡ 2
         → Refuses (F.misses files.old) (F.misses files.new)
         (outputs (O.contents out.old) (O.contents out.new)

@@ -1,7 +1,7 @@
 //! The lines that a command prints beside those of refusals.
 
 ghost use Rattle.std.specs.Prelude.{◌≡◌, IfOk};
-ghost use Rattle.dy_build.specs.Lines.{file_fault_line, unhandled_line, out_of_fuel_line};
+ghost use Rattle.dy_build.specs.Lines.{file_fault_line, end_line, out_of_fuel_line};
 
 use std::alloc::{AllocError, Global};
 
@@ -15,12 +15,11 @@ pub(crate) fn file_fault_line(alloc: Global, name: &[u8]) -> Result<Vec<u8>, All
     Ok(line)
 }
 
-/// The line of a run that ended with an error that nothing handled.
-pub(crate) fn unhandled_line(alloc: Global, text: &[u8]) -> Result<Vec<u8>, AllocError>
-    ensures { IfOk result (λ line. line.items ≡ unhandled_line text.now) }
+/// The line of a run that ended by a condition that nothing handled, of which this is told.
+pub(crate) fn end_line(alloc: Global, text: &[u8]) -> Result<Vec<u8>, AllocError>
+    ensures { IfOk result (λ line. line.items ≡ end_line text.now) }
 {
-    let mut line = Vec::from_slice(alloc, b"unhandled <simple-error>: ")?;
-    line.extend_from_slice(text)?;
+    let mut line = Vec::from_slice(alloc, text)?;
     line.push(b'\n')?;
     Ok(line)
 }

@@ -217,22 +217,132 @@ pub enum Construct {
 fn has_come(construct: Construct) -> bool
     ensures { result ≡ table.has_come construct }
 {
-    matches!(
-        construct,
+    match construct {
+        // Forms.
         Construct::PrintingCall
-            | Construct::MethodDefinition
-            | Construct::Inlining
-            | Construct::RequiredParameter
-            | Construct::Addition
-            | Construct::Subtraction
-            | Construct::Multiplication
-            | Construct::Identical
-            | Construct::Less
-            | Construct::Call
-            | Construct::Name
-            | Construct::Integer
-            | Construct::If
-    )
+        | Construct::OtherDirectives
+        | Construct::ExpressionForm
+        | Construct::ConstantDefinition
+        | Construct::VariableDefinition
+        | Construct::MethodDefinition
+        | Construct::FunctionDefinition => true,
+        Construct::ClassDefinition
+        | Construct::GenericDefinition
+        | Construct::DomainDefinition
+        | Construct::MacroDefinition => false,
+        // Adjectives of definitions.
+        Construct::Inlining => true,
+        Construct::Open
+        | Construct::Sealed
+        | Construct::Abstract
+        | Construct::Concrete
+        | Construct::Primary
+        | Construct::Free
+        | Construct::OtherAdjective => false,
+        // Slots of classes.
+        Construct::Slot
+        | Construct::ConstantSlot
+        | Construct::SlotAllocation
+        | Construct::TypedSlot
+        | Construct::InitialValue
+        | Construct::InitFunction
+        | Construct::InitKeyword
+        | Construct::RequiredInitKeyword
+        | Construct::NamedSetter => false,
+        // Parameter lists.
+        Construct::NoParameter
+        | Construct::RequiredParameter
+        | Construct::SeveralParameters
+        | Construct::Results => true,
+        Construct::TypedParameter
+        | Construct::SingletonParameter
+        | Construct::NextParameter
+        | Construct::RestParameter
+        | Construct::KeyParameters
+        | Construct::NamedKeyword
+        | Construct::TypedKey
+        | Construct::KeyDefault
+        | Construct::AllKeys
+        | Construct::TypedResult
+        | Construct::RestResult => false,
+        // Types.
+        Construct::NamedType
+        | Construct::SingletonType
+        | Construct::UnionType
+        | Construct::LimitedType => false,
+        // Parts of bodies.
+        Construct::EmptyBody
+        | Construct::SeveralItems
+        | Construct::Let
+        | Construct::SeveralVariables
+        | Construct::LocalMethods => true,
+        Construct::RestVariable | Construct::TypedVariable | Construct::LetHandler => false,
+        // Expressions.
+        Construct::Assignment
+        | Construct::Addition
+        | Construct::Subtraction
+        | Construct::Multiplication
+        | Construct::And
+        | Construct::Or
+        | Construct::Identical
+        | Construct::Less
+        | Construct::Greater
+        | Construct::AtMost
+        | Construct::AtLeast
+        | Construct::NotIdentical
+        | Construct::ComparisonValue
+        | Construct::Negation
+        | Construct::Not
+        | Construct::Call
+        | Construct::ComputedCall
+        | Construct::NoArgument
+        | Construct::SeveralArguments
+        | Construct::Member
+        | Construct::Name
+        | Construct::Integer
+        | Construct::String
+        | Construct::Boolean => true,
+        Construct::Division
+        | Construct::Power
+        | Construct::Equal
+        | Construct::Unequal
+        | Construct::OtherOperator
+        | Construct::KeywordArgument
+        | Construct::Element
+        | Construct::NextMethod
+        | Construct::Character
+        | Construct::Symbol
+        | Construct::List
+        | Construct::DottedTail
+        | Construct::Vector => false,
+        // Statements.
+        Construct::Begin
+        | Construct::AnonymousMethod
+        | Construct::If
+        | Construct::Elseif
+        | Construct::NoElse
+        | Construct::OtherTest
+        | Construct::Unless
+        | Construct::While
+        | Construct::Until
+        | Construct::Case
+        | Construct::Select
+        | Construct::SelectTest
+        | Construct::Otherwise
+        | Construct::For
+        | Construct::ThenClause
+        | Construct::FromClause
+        | Construct::Limit
+        | Construct::Step
+        | Construct::Stop
+        | Construct::Finally => true,
+        Construct::Block
+        | Construct::BlockExit
+        | Construct::Afterwards
+        | Construct::Cleanup
+        | Construct::ExceptionClause
+        | Construct::InClause => false,
+    }
 }
 
 /// The construct, if it has not come.

@@ -53,7 +53,8 @@ abbrev mutual
       constructs.Call ∷ ((as_function function ++ in_tree function) ++ in_arguments arguments)
   in_tree (source.element inner opener index) =
       constructs.Element ∷ ((as_value inner ++ in_tree inner) ++ (as_value index ++ in_tree index))
-  in_tree (source.member inner token) = constructs.Member ∷ (as_value inner ++ in_tree inner)
+  in_tree (source.member inner token) =
+      constructs.Member ∷ (next_method token ++ (as_value inner ++ in_tree inner))
   in_tree (source.literal value) = of_literal value ∷ []
   in_tree (source.name token) = constructs.Name ∷ next_method token
   in_tree (source.list opener items last) = constructs.List ∷ (in_constants items ++ in_tail last)

@@ -79,7 +79,9 @@ fn in_tree(expression: &Expression) -> Option<Construct>
         Expression::Element { object, index, .. } => absent(Construct::Element)
             .or(in_value(object))
             .or(in_value(index)),
-        Expression::Member { object, .. } => absent(Construct::Member).or(in_value(object)),
+        Expression::Member { object, name } => absent(Construct::Member)
+            .or(next_method(name))
+            .or(in_value(object)),
         Expression::Literal(form) => in_literal(form),
         Expression::Name(token) => absent(Construct::Name).or(next_method(token)),
         Expression::List { items, tail, .. } => absent(Construct::List)

@@ -4,3 +4,5 @@ pub mod Folders
 pub mod FileNames
 pub mod Sources
 pub mod Uniqueness
+pub mod Accepted
+pub mod Judging

@@ -4,7 +4,7 @@ use Rattle.dy_base.specs.declared.fault.Fault.{Fault}
 use Rattle.dy_io.specs.Files.{FileMap}
 use Rattle.dy_lexer.specs.declared.source.Lid.{Lid}
 use Rattle.dy_lexer.proofs.OneReading.{one_lid, one_lid_fault, lid_or_fault}
-use Rattle.dy_judge.proofs.Uniqueness.{verdict_one}
+use Rattle.dy_verdict_laws.proofs.Uniqueness.{verdict_one}
 use Rattle.dy_sources.specs.Layout.{source_name}
 use Rattle.dy_sources.specs.Verdicts.{Source, absent, too_long, text, source_at, Verdict, refused, File, file, located, located_verdict, JudgesTexts, JudgesFiles, JudgesNames, JudgesLid, JudgesSource}
 

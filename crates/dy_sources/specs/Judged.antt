@@ -3,8 +3,7 @@ use Rattle.std.specs.Prelude.{◌≡◌, ◌≢◌, ◌≤◌, ◌⊎◌, ℕ, L
 use Rattle.std.specs.Prelude.{Contains, IsTrue}
 use Rattle.dy_base.specs.declared.kind.Kind.TheVariants.{NoFile}
 use Rattle.dy_io.specs.Causes.{Rose}
-use Rattle.dy_runnable.specs.declared.program.Program.{Program}
-use Rattle.dy_runnable.specs.Core.{seen_program}
+use Rattle.dy_term.specs.declared.rows.LibraryRow.{LibraryRow}
 use Rattle.dy_sources.specs.declared.source.Source.{Source as Read}
 use Rattle.dy_sources.specs.declared.source.Source.TheVariants as read
 use Rattle.dy_sources.specs.declared.source.Halt.{Halt}
@@ -13,6 +12,7 @@ use Rattle.dy_io.specs.Files.{FileMap}
 use Rattle.dy_lexer.specs.declared.source.Lid.{Lid}
 use Rattle.dy_lexer.specs.Headers.{is_printable}
 use Rattle.dy_lexer.specs.Sources.{IsLid}
+use Rattle.dy_verdict.specs.Verdicts as texts
 use Rattle.dy_sources.specs.Layout.{file_limit, source_name}
 use Rattle.dy_sources.specs.Verdicts.{Source, absent, too_long, text, source_at, Verdict, refused}
 use Rattle.dy_sources.specs.Verdicts.{accepted}
@@ -29,11 +29,16 @@ IsWithin read.TooLong = Unit {0}
 IsWithin (read.Text bytes) = length bytes.items ≤ file_limit
 
 -- The answer is judged so, unless a file failed or memory ran out.
-abbrev pub Judged : (Verdict → Type 0) → Result Program Halt → Type 0
-Judged judges (Ok program) = judges (accepted (seen_program program))
+abbrev pub Judged : (Verdict → Type 0) → Result LibraryRow Halt → Type 0
+Judged judges (Ok library) = judges (accepted library)
 Judged judges (Err (halts.Refused why)) = judges (refused why)
 Judged judges (Err (halts.FileFault name)) = Unit {0}
 Judged judges (Err halts.Memory) = Unit {0}
+
+-- two files of some library come to these rows, whatever is told of files
+abbrev pub IsAccepted : LibraryRow → Type 0
+IsAccepted row = (library : List ℕ) × (first : List ℕ) × (second : List ℕ)
+    × texts.IsVerdict library first second (texts.accepted row)
 
 -- A file is reported absent only where the misses rose.
 abbrev pub Misses : ℕ → ℕ → Halt → Type 0

@@ -7,8 +7,8 @@ use Rattle.dy_base.specs.declared.fault.Place.{Place}
 use Rattle.dy_io.specs.Files.{FileMap}
 use Rattle.dy_lexer.specs.declared.source.Lid.{Lid}
 use Rattle.dy_lexer.specs.Sources.{IsLid, IsLidFault}
-use Rattle.dy_runnable.specs.Core.{CoreLibrary}
-use Rattle.dy_judge.specs.Verdicts as texts
+use Rattle.dy_term.specs.declared.rows.LibraryRow.{LibraryRow}
+use Rattle.dy_verdict.specs.Verdicts as texts
 use Rattle.dy_sources.specs.declared.source.File.{File as Held}
 use Rattle.dy_sources.specs.declared.refused.Position.{Position}
 use Rattle.dy_sources.specs.declared.refused.Refused.{Refused}
@@ -29,10 +29,10 @@ source_of (Some bytes) = if nat_le (length bytes) file_limit then text bytes els
 abbrev pub source_at : FileMap → List ℕ → Source
 source_at files name = source_of (map.get files name)
 
--- why a library is refused, or the program that it is
+-- why a library is refused, or its rows
 pub data Verdict : Type 0 where
   refused : (why : Refused) → Verdict
-  accepted : (program : List CoreLibrary) → Verdict
+  accepted : (library : LibraryRow) → Verdict
 
 -- a file that was read: its name, and its text
 pub record File : Type 0 where
@@ -72,7 +72,7 @@ located subject first second fault =
 abbrev pub located_verdict : List ℕ → File → File → texts.Verdict → Verdict
 located_verdict library first second (texts.refused fault) =
     refused (located library first second fault)
-located_verdict library first second (texts.accepted program) = accepted program
+located_verdict library first second (texts.accepted row) = accepted row
 
 -- what the texts of two files come to
 abbrev pub JudgesTexts : List ℕ → File → File → Verdict → Type 0
@@ -121,6 +121,6 @@ JudgesSource files lid absent verdict = verdict ≡ refused (no_file lid lid)
 JudgesSource files lid too_long verdict = verdict ≡ refused (syntax lid lid start)
 JudgesSource files lid (text bytes) verdict = JudgesLid files lid bytes verdict
 
--- what the library of a LID file comes to: its first fault, or the program
+-- what the library of a LID file comes to: its first fault, or its rows
 abbrev pub IsVerdict : FileMap → List ℕ → Verdict → Type 0
 IsVerdict files lid verdict = JudgesSource files lid (source_at files lid) verdict

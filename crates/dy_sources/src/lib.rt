@@ -7,4 +7,4 @@ mod refused;
 mod source;
 
 pub use refused::{Position, Refused, refusal_line};
-pub use source::{Halt, read_program};
+pub use source::{Halt, read_library};

@@ -14,15 +14,16 @@ ghost use Rattle.dy_sources.specs.Verdicts.{located, JudgesTexts, JudgesFiles, J
 ghost use Rattle.dy_sources.specs.Verdicts.{JudgesNames, JudgesLid, IsVerdict};
 ghost use Rattle.dy_sources.specs.Judged.{seen_source, IsWithin, Interrupts, Fails, Misses, Judged};
 ghost use Rattle.dy_sources.specs.Judged.{IsPlain, TellsName, IsEither, IsSourceOf, NamesFile};
+ghost use Rattle.dy_sources.specs.Judged.{IsAccepted};
 
 use crate::names::source_name;
 use crate::point::start;
 use crate::refused::{Position, Refused, position_at};
 use dy_base::{Fault, Place, Refusal, Text};
 use dy_io::{Files, Found, ReadFail};
-use dy_judge::judge;
 use dy_lexer::{Lid, read_lid};
-use dy_runnable::Program;
+use dy_term::LibraryRow;
+use dy_verdict::read_sources;
 use std::alloc::{AllocError, Global};
 
 /// A file has at most so many bytes.
@@ -36,7 +37,7 @@ pub(crate) enum Source {
     Text(Vec<u8>),
 }
 
-/// Why there is no program.
+/// Why there is no library.
 #[derive(Debug, Drop)]
 pub enum Halt {
     /// The library is refused, by its first fault.
@@ -152,21 +153,22 @@ fn located(
     })
 }
 
-/// The program of a library whose files are these.
-fn texts_program(
+/// The library whose files are these.
+fn texts_library(
     alloc: Global,
     library: &[u8],
     first: File<'_>,
     second: File<'_>,
-) -> Result<Program, Halt>
+) -> Result<LibraryRow, Halt>
     requires first { length first.text.now ≤ file_limit }
     requires second { length second.text.now ≤ file_limit }
     ensures verdict { Judged (JudgesTexts library.now (file_of first.entry) (file_of second.entry))
         result }
+    ensures accepted { IfOk result IsAccepted }
     ensures refused { IfErr result IsPlain }
 {
-    match judge(alloc, library, first.text, second.text) {
-        Ok(program) => Ok(program),
+    match read_sources(alloc, library, first.text, second.text) {
+        Ok(row) => Ok(row),
         Err(Refusal::Fault(fault)) => Err(Halt::Refused(located(
             alloc, library, first, second, fault,
         )?)),
@@ -174,21 +176,22 @@ fn texts_program(
     }
 }
 
-/// The program of a library whose files of these names are these sources, of which none is absent.
-fn sources_program(
+/// The library whose files of these names are these sources, of which none is absent.
+fn files_library(
     alloc: Global,
     library: &[u8],
     first_name: &[u8],
     second_name: &[u8],
     first: &Source,
     second: &Source,
-) -> Result<Program, Halt>
+) -> Result<LibraryRow, Halt>
     requires first { IsWithin first.now }
     requires second { IsWithin second.now }
     requires first_here { first.now ≢ Source.Absent }
     requires second_here { second.now ≢ Source.Absent }
     ensures verdict { Judged (JudgesFiles library.now first_name.now second_name.now
         (seen_source first.now) (seen_source second.now)) result }
+    ensures accepted { IfOk result IsAccepted }
     ensures refused { IfErr result IsPlain }
 {
     let Source::Text(first) = first else {
@@ -207,22 +210,23 @@ fn sources_program(
         name: second_name,
         text: second,
     };
-    texts_program(alloc, library, first, second)
+    texts_library(alloc, library, first, second)
 }
 
-/// The program of a library whose LID file names these files.
-fn named_program<F: Files>(
+/// The library whose LID file names these files.
+fn named_library<F: Files>(
     alloc: Global,
     files: &mut F,
     lid: &str,
     library: &[u8],
     first: &[u8],
     second: &[u8],
-) -> Result<Program, Halt>
+) -> Result<LibraryRow, Halt>
     requires first { IsTrue (is_printable first.now) }
     requires second { IsTrue (is_printable second.now) }
     ensures verdict { (held : FileMap) → F.contents files.old ≡ Some held
         → Judged (JudgesNamed held lid.now library.now first.now second.now) result }
+    ensures accepted { IfOk result IsAccepted }
     ensures missed { IfErr result (Misses (F.misses files.old) (F.misses files.new)) }
     ensures failed { IfErr result (Fails (F.faults files.old) (F.faults files.new)) }
     ensures named { IfErr result (TellsName (IsEither lid.now first.now second.now)) }
@@ -242,7 +246,7 @@ fn named_program<F: Files>(
         let why = Refused::no_file(alloc, library, second_name.as_bytes())?;
         return Err(Halt::Refused(why));
     }
-    sources_program(
+    files_library(
         alloc,
         library,
         first_name.as_bytes(),
@@ -259,16 +263,17 @@ fn lid_fault(alloc: Global, lid: &[u8]) -> Result<Refused, AllocError>
     Refused::syntax(alloc, lid, lid, start())
 }
 
-/// The program of a LID file that says this: it is to name two files.
-fn library_program<F: Files>(
+/// The library of a LID file that says this: it is to name two files.
+fn found_library<F: Files>(
     alloc: Global,
     files: &mut F,
     lid: &str,
     found: &Lid,
-) -> Result<Program, Halt>
+) -> Result<LibraryRow, Halt>
     requires { IsTrue (are_printable found.now.files) }
     ensures verdict { (held : FileMap) → F.contents files.old ≡ Some held
         → Judged (JudgesNames held lid.now found.now.library found.now.files) result }
+    ensures accepted { IfOk result IsAccepted }
     ensures missed { IfErr result (Misses (F.misses files.old) (F.misses files.new)) }
     ensures failed { IfErr result (Fails (F.faults files.old) (F.faults files.new)) }
     ensures named { IfErr result (TellsName (IsSourceOf lid.now found.now.files)) }
@@ -279,22 +284,23 @@ fn library_program<F: Files>(
     match found.files.as_slice() {
         [first, second] => {
             let library = found.library.bytes();
-            named_program(alloc, files, lid, library, first.bytes(), second.bytes())
+            named_library(alloc, files, lid, library, first.bytes(), second.bytes())
         }
         _ => Err(Halt::Refused(lid_fault(alloc, lid.as_bytes())?)),
     }
 }
 
-/// The program of a LID file of this text.
-fn lid_program<F: Files>(
+/// The library of a LID file of this text.
+fn lid_library<F: Files>(
     alloc: Global,
     files: &mut F,
     lid: &str,
     text: &[u8],
-) -> Result<Program, Halt>
+) -> Result<LibraryRow, Halt>
     requires { length text.now ≤ file_limit }
     ensures verdict { (held : FileMap) → F.contents files.old ≡ Some held
         → Judged (JudgesLid held lid.now text.now) result }
+    ensures accepted { IfOk result IsAccepted }
     ensures missed { IfErr result (Misses (F.misses files.old) (F.misses files.new)) }
     ensures failed { IfErr result (Fails (F.faults files.old) (F.faults files.new)) }
     ensures named { IfErr result
@@ -305,7 +311,7 @@ fn lid_program<F: Files>(
     ensures faults { F.faults files.old ≤ F.faults files.new }
 {
     match read_lid(alloc, text) {
-        Ok(found) => library_program(alloc, files, lid, &found),
+        Ok(found) => found_library(alloc, files, lid, &found),
         Err(Refusal::Fault(fault)) => {
             let file = File {
                 name: lid.as_bytes(),
@@ -318,18 +324,19 @@ fn lid_program<F: Files>(
     }
 }
 
-/// The program of the library of a LID file, or why there is none.
+/// The library of a LID file, as rows, or why there is none.
 ///
 /// A LID file names two source files, which lie beside it. Each of the three files has at most
 /// 4,194,304 bytes; one that is longer is out of form. An absent file is told before a file that is
 /// out of form, and the LID file before its sources.
 ///
-/// `Refused` comes with the first fault of the library, as `judge` finds it in the two files;
-/// `FileFault` where the files count one more failure, with the name of a file that is read for
-/// this LID file; and `Memory` where memory ran out. No file is written.
-pub fn read_program<F: Files>(alloc: Global, files: &mut F, lid: &str) -> Result<Program, Halt>
+/// `Refused` comes with the first fault of the library, as `read_sources` of `dy_verdict` finds it
+/// in the two files; `FileFault` where the files count one more failure, with the name of a file
+/// that is read for this LID file; and `Memory` where memory ran out. No file is written.
+pub fn read_library<F: Files>(alloc: Global, files: &mut F, lid: &str) -> Result<LibraryRow, Halt>
     ensures verdict { (held : FileMap) → F.contents files.old ≡ Some held
         → Judged (IsVerdict held lid.now) result }
+    ensures accepted { IfOk result IsAccepted }
     ensures missed { IfErr result (Misses (F.misses files.old) (F.misses files.new)) }
     ensures failed { IfErr result (Fails (F.faults files.old) (F.faults files.new)) }
     ensures named { IfErr result (TellsName (NamesFile (F.contents files.old) lid.now)) }
@@ -343,6 +350,6 @@ pub fn read_program<F: Files>(alloc: Global, files: &mut F, lid: &str) -> Result
             Err(Halt::Refused(why))
         }
         Source::TooLong => Err(Halt::Refused(lid_fault(alloc, lid.as_bytes())?)),
-        Source::Text(text) => lid_program(alloc, files, lid, &text),
+        Source::Text(text) => lid_library(alloc, files, lid, &text),
     }
 }

@@ -7,7 +7,7 @@ use Rattle.dy_rules.specs.Trees as trees
 use Rattle.dy_rules.specs.SeenTypes.{seen_constant, seen_target, seen_type, seen_variable}
 use Rattle.dy_rules.specs.SeenForms.{seen_tree, seen_statement, seen_argument, seen_item, seen_clause, seen_for_clause, seen_initial, seen_parameters}
 use Rattle.dy_rules.specs.Held.{held_body, held_last, held_limit, held_stop, held_test}
-use Rattle.dy_construct_parts.specs.Words.{binary, guarded}
+use Rattle.dy_construct_parts.specs.Words.{binary, guarded, next_method}
 use Rattle.dy_construct_parts.specs.Parts.{in_constant, in_tail, in_target, in_type, in_variable}
 use Rattle.dy_constructs.specs.Bodies.{as_function, as_value, as_test, in_tree, in_value, in_test, in_called, in_arguments, in_item, in_body, in_clause, in_else, in_last, in_limit, in_loop_clause, in_maybe, in_parameters, in_stop, in_tests}
 use Rattle.dy_constructs.specs.Held.{held_value, held_argument, held_item, held_method, held_alternative, held_arm, held_clause, held_loop_clause, held_key}
@@ -98,6 +98,13 @@ expressions::in_tree-returns-in-Element t c =
     let part_1 = in_value (seen_tree c.in-Element.index.value) in
     let from : in_tree (seen_tree c.args.expression.now) ≡ constructs.Element ∷ (part_0 ++ part_1) = rw c.in-Element.is refl in
     parts_2 _ _ _ _ _ (constructs.Element) part_0 part_1 c.absent-in-Element.ensures (held in_value _ _ c.in-Element.object.value c.in_value-in-Element.ensures c.deref-in-Element.ensures) c.or-in-Element.ensures (held in_value _ _ c.in-Element.index.value c.in_value-in-Element-2.ensures c.deref-in-Element-2.ensures) c.or-in-Element-2.ensures ∙ sym (ap first_absent from)
+
+pub expressions::in_tree-returns-in-Member : goal.expressions::in_tree-returns-in-Member
+expressions::in_tree-returns-in-Member t c =
+    let part_0 = next_method c.in-Member.name in
+    let part_1 = in_value (seen_tree c.in-Member.object.value) in
+    let from : in_tree (seen_tree c.args.expression.now) ≡ constructs.Member ∷ (part_0 ++ part_1) = rw c.in-Member.is refl in
+    parts_2 _ _ _ _ _ (constructs.Member) part_0 part_1 c.absent-in-Member.ensures c.next_method.ensures c.or-in-Member.ensures (held in_value _ _ c.in-Member.object.value c.in_value-in-Member.ensures c.deref-in-Member.ensures) c.or-in-Member-2.ensures ∙ sym (ap first_absent from)
 
 pub expressions::in_tree-returns-in-List : goal.expressions::in_tree-returns-in-List
 expressions::in_tree-returns-in-List t c =

@@ -1,5 +1,5 @@
-use Rattle.std.proofs.Common.{subst}
-use Rattle.dy_build.proofs.Closings.{build_done, build_front, usage_done, usage_front, told_of}
+use Rattle.std.proofs.Common.{arith}
+use Rattle.dy_build.proofs.Closings.{build_done, build_front, usage_done, usage_front, told_of, ran_of, line_unended}
 use Rattle.dy_sources.proofs.Points.{point_at-front}
 use Rattle.dy_build.proofs.command.run_words.Goals as goal
 
@@ -25,3 +25,9 @@ returns-in-Some-clause-places g c = λ front rest. point_at-front front rest
 
 pub returns-in-None-clause-places : goal.returns-in-None-clause-places
 returns-in-None-clause-places g c = λ front rest. point_at-front front rest
+
+pub returns-in-Some-clause-ran : goal.returns-in-Some-clause-ran
+returns-in-Some-clause-ran g c = λ ended. ran_of _ _ _ _ c.in-Some.ensures (c.build.ensures.ran ended)
+
+pub returns-in-None-clause-ran : goal.returns-in-None-clause-ran
+returns-in-None-clause-ran g c = λ ended. line_unended 3 _ c.put_line.result _ _ (omega arith) (omega arith) c.put_line.ensures.puts ended

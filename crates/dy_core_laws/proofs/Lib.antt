@@ -1,5 +1,0 @@
-pub mod Lists
-pub mod Operators
-pub mod Calls
-pub mod Terms
-pub mod Forms

@@ -1,6 +1,0 @@
-pub mod Words
-pub mod Pieces
-pub mod Forms
-pub mod Files
-pub mod Library
-pub mod Verdicts

@@ -1,5 +1,0 @@
-pub mod Terms
-pub mod Calls
-pub mod Libraries
-pub mod Numbered
-pub mod Findings

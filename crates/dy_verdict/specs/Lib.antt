@@ -1,0 +1,9 @@
+pub mod Words
+pub mod Pieces
+pub mod Definitions
+pub mod Forms
+pub mod Files
+pub mod Library
+pub mod Readings
+pub mod Seen
+pub mod Verdicts
