@@ -1,0 +1,3 @@
+library: counter
+files: library
+ counter

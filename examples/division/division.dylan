@@ -1,0 +1,16 @@
+module: division
+
+// Two values: how often a number holds another one, and what is left.
+define function divide (number, divisor) => (quotient, rest)
+  let quotient = 0;
+  let rest = number;
+  until (rest < divisor)
+    rest := rest - divisor;
+    quotient := quotient + 1
+  end;
+  values(quotient, rest)
+end;
+
+define constant (weeks, days) = divide(100, 7);
+
+format-out("%d weeks and %d days\n", weeks, days);

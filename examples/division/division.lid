@@ -1,0 +1,3 @@
+library: division
+files: library
+ division

@@ -1,0 +1,3 @@
+library: sorting
+files: library
+ sorting
