@@ -4,4 +4,5 @@ pub mod Identity
 pub mod Objects
 pub mod Spending
 pub mod Stores
+pub mod Variables
 pub mod Words
