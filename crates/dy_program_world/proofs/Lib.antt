@@ -1,2 +1,5 @@
+pub mod Choosing
+pub mod Entering
 pub mod Performing
 pub mod Plain
+pub mod Steadying

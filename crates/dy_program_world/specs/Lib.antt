@@ -1,1 +1,3 @@
 pub mod ProgramWorlds
+pub mod Steady
+pub mod Tables

@@ -15,7 +15,7 @@ use dy_world::World;
 pub fn world_laws()
     // A world has what is built in for its program.
     ensures world { (world : Held)
-        → ⟦<ProgramWorld<'static> as World>⟧.built_in world ≡ built_in_of world.program.now }
+        → ⟦<ProgramWorld<'static> as World>⟧.built_in world ≡ built_in_of world }
     // With it the machine of a program's code is the one whose runs on lowered code do what the
     // program means.
     ensures machine { (program : Rows)

@@ -4,6 +4,8 @@
 mod applicable;
 mod built_in;
 mod laws;
+mod sole;
+mod table;
 
 pub use built_in::ProgramWorld;
 pub use laws::world_laws;

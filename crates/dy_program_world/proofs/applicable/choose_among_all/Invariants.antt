@@ -1,7 +1,7 @@
 use Rattle.std.proofs.Common.{◌≡◌, ◌++◌, drop}
 use Rattle.dy_lowering_law.specs.Machines.{all_methods_from}
 use Rattle.dy_program_world.specs.ProgramWorlds.{chosen}
-use Rattle.dy_program_world.proofs.applicable.choose.Given as goal
+use Rattle.dy_program_world.proofs.applicable.choose_among_all.Given as goal
 
 abbrev pub invariant-loop-library : goal.invariant-loop-library
 invariant-loop-library l =
