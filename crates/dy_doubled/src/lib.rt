@@ -1,0 +1,8 @@
+//! Modules that a library defines twice, or defines and imports, and libraries of one name (DRM 4,
+//! "Modules" and "Libraries").
+#![tactic(auto)]
+
+mod doubled;
+mod imported;
+
+pub use doubled::{TakenNames, redefined};
