@@ -1,0 +1,5 @@
+use Rattle.dy_module_names.specs.Means.{outside_in}
+use Rattle.dy_module_names.proofs.names.resolve.Goals as goal
+
+pub returns : goal.returns
+returns c = (outside_in c.of-names.result.names, c.of-names.ensures, c.resolve.ensures)

@@ -1,0 +1,5 @@
+pub mod Definitions
+pub mod Given
+pub mod Means
+pub mod Passes
+pub mod Tokens
