@@ -85,7 +85,7 @@ def tens(count):
 
 PROGRAMS = [
     Program("double", 28, lambda n: line(fibonacci(n)), (15, 18), double_code, 0.7),
-    Program("deep", MILLION, line, (1000, 2000), lambda n: 19 * n, 0.4),
+    Program("deep", MILLION, line, (8000, 16_000), lambda n: 19 * n, 0.4),
     Program("count", 10 * MILLION, line, (1000, 2000), lambda n: 14 * n, 0.6),
     Program("closure", MILLION, lambda n: line(n + 1), (1000, 2000), lambda n: 25 * n, 0.5),
     Program("several", MILLION, lambda n: line(2 * n), (1000, 2000)),
