@@ -9,7 +9,7 @@ use Rattle.dy_steps.specs.Configurations.{Ending, Finished}
 use Rattle.dy_steps.specs.Steps.{RunsTo}
 use Rattle.dy_lowering_law.specs.Machines.{machine_of}
 use Rattle.dy_lowering_law.specs.Behaving.{EndsAs, Behaves}
-use Rattle.dy_lowered_valid.specs.Scoped.{is_library_scoped, IsScoped}
+use Rattle.dy_lowering_whole.specs.valid.Scoped.{is_library_scoped, IsScoped}
 use Rattle.dy_lowering_whole.specs.Lowered.{is_library_lowered, IsLowered}
 use Rattle.dy_lowering_whole.proofs.Programs.{lowered_programs_behave}
 use Rattle.dy_machine.specs.Ends.{Course, TakesCourse}

@@ -7,7 +7,7 @@ use Rattle.dy_outcome.specs.States.{Outcome, Gave, Exits, Ended, Spent}
 use Rattle.dy_steps.specs.Configurations.{End, Finished, Signalled, OutOfFuel, Ending}
 use Rattle.dy_meaning.specs.Programs.{program_meaning}
 use Rattle.dy_lowering_law.specs.Behaving.{EndsAs}
-use Rattle.dy_lowered_valid.specs.Scoped.{IsScoped}
+use Rattle.dy_lowering_whole.specs.valid.Scoped.{IsScoped}
 use Rattle.dy_lowering_whole.specs.Lowered.{IsLowered}
 use Rattle.dy_machine.specs.Ends as machine
 use Rattle.dy_running.specs.Runs.{Tells, left_by}

@@ -1,7 +1,7 @@
 -- The program of a library that is accepted may run.
 use Rattle.dy_term.specs.declared.rows.LibraryRow.{LibraryRow}
 use Rattle.dy_assembly.specs.Libraries.{program_with}
-use Rattle.dy_lowered_valid.specs.Scoped.{IsScoped}
+use Rattle.dy_lowering_whole.specs.valid.Scoped.{IsScoped}
 use Rattle.dy_lowering_whole.specs.Lowered.{IsLowered}
 use Rattle.dy_verdict_laws.proofs.Accepted.{accepted_lowered}
 use Rattle.dy_sources.specs.Judged.{IsAccepted}

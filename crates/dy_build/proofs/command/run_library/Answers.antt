@@ -2,7 +2,7 @@ use Rattle.std.proofs.Common.{subst}
 use Rattle.dy_term.specs.declared.rows.Program.{Program}
 use Rattle.dy_meaning.specs.Programs.{program_meaning}
 use Rattle.dy_assembly.specs.Libraries.{program_with}
-use Rattle.dy_lowered_valid.specs.Scoped.{IsScoped}
+use Rattle.dy_lowering_whole.specs.valid.Scoped.{IsScoped}
 use Rattle.dy_lowering_whole.specs.Lowered.{IsLowered}
 use Rattle.dy_sources.proofs.Accepted.{scoped, lowered}
 use Rattle.dy_running.proofs.Telling.{memory_told}

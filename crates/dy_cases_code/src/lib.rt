@@ -1,0 +1,7 @@
+//! Cases of code: a program in, and out the code of its bodies.
+#![tactic(auto)]
+
+mod bodies;
+mod showing;
+
+pub use showing::show;
