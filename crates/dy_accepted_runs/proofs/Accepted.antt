@@ -8,7 +8,7 @@ use Rattle.dy_term.specs.declared.rows.LibraryRow.{LibraryRow}
 use Rattle.dy_code.specs.Validity.{IsValid}
 use Rattle.dy_steps.proofs.Never.{valid_code_runs}
 use Rattle.dy_lowering_law.specs.Machines.{linked_program, machine_of}
-use Rattle.dy_lowered_valid.specs.Scoped.{IsScoped}
+use Rattle.dy_lowering_whole.specs.valid.Scoped.{IsScoped}
 use Rattle.dy_library_rows.specs.Libraries.{Form}
 use Rattle.dy_assembly.specs.Libraries.{own_library, wrong_with, program_with}
 use Rattle.dy_machine_laws.proofs.Built.{machine_orderly, valid_programs_end}

@@ -23,12 +23,12 @@ use Rattle.dy_meaning.specs.Numbering.{numbered_by}
 use Rattle.dy_lowered.specs.Bodies.{FlatBody, body_alone, top_body, inside_code, inside_method, inside_function, inside_variable, inside_slot, all_slots, closures_of, code_bodies, function_bodies, init_bodies, closure_bodies, lambda_body, bodies_of}
 use Rattle.dy_lowered.specs.Flat.{Plain, Code, one}
 use Rattle.dy_lowered.specs.Terms.{code_of}
-use Rattle.dy_lowered_valid.specs.Valid.{FlatFound}
-use Rattle.dy_lowered_valid.proofs.Laying.{every_append}
-use Rattle.dy_lowered_valid.proofs.Positions.{first, methods_at, variables_at, forms_at, methods_part, variables_part, slots_part, forms_part, closures_part, behind_slots, behind_variables, behind_methods, parts_are, give_method, give_variable, give_slot, give_top}
-use Rattle.dy_called_terms.proofs.Pieces.{Found, join}
-use Rattle.dy_called_terms.specs.Called.{CallsKnown, TermKnown}
-use Rattle.dy_called_terms.proofs.Terms.{AllKnown}
+use Rattle.dy_lowering_whole.specs.valid.Valid.{FlatFound}
+use Rattle.dy_lowering_whole.proofs.valid.Laying.{every_append}
+use Rattle.dy_lowering_whole.proofs.valid.Positions.{first, methods_at, variables_at, forms_at, methods_part, variables_part, slots_part, forms_part, closures_part, behind_slots, behind_variables, behind_methods, parts_are, give_method, give_variable, give_slot, give_top}
+use Rattle.dy_lowering_whole.proofs.called.Pieces.{Found, join}
+use Rattle.dy_lowering_whole.specs.called.Called.{CallsKnown, TermKnown}
+use Rattle.dy_lowering_whole.proofs.called.Terms.{AllKnown}
 use Rattle.dy_called_generics.proofs.Rows.{InitKnown, CodeKnown, FunctionKnown, TopKnown, SlotsKnown}
 
 module _ {X Y : Type 0} (P : Y → Type 0) (Q : X → Type 0) (inside : X → List Lambda) where

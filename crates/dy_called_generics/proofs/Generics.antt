@@ -34,8 +34,8 @@ use Rattle.dy_library_rows.specs.Names.{slot_names, slots_names, setter_name, wh
 use Rattle.dy_assembly.specs.Generics.{number_in, Offer, made_by_method, made_by_setter, made_by_slot, made_by, defined_by, offers, with_number, numbered, generics_of}
 use Rattle.dy_assembly.specs.Libraries.{generic_in, drafts_of}
 use Rattle.dy_code.specs.Validity.{Every}
-use Rattle.dy_lowered_valid.proofs.Laying.{every_append}
-use Rattle.dy_lowered_valid.proofs.Soundness.{got}
+use Rattle.dy_lowering_whole.proofs.valid.Laying.{every_append}
+use Rattle.dy_lowering_whole.proofs.valid.Soundness.{got}
 use Rattle.dy_called_generics.proofs.Names.{AreTested}
 
 -- a name is offered a generic function

@@ -15,7 +15,7 @@ use Rattle.dy_term.specs.Rows.{CoreDraft}
 use Rattle.dy_prims.specs.Rows.{dylan_row, io_row}
 use Rattle.dy_names.specs.Naming.{Table}
 use Rattle.dy_code.specs.Validity.{Every}
-use Rattle.dy_lowered_valid.proofs.Sameness.{both_true, and_true}
+use Rattle.dy_lowering_whole.proofs.valid.Sameness.{both_true, and_true}
 use Rattle.dy_library_rows.specs.Names.{bound, owning, exports, defined, next_row, counted, Names, with_name_by, with_name, with_names, with_forms, no_rows, names_of}
 use Rattle.dy_library_rows.specs.declared.names.RowCounts.{RowCounts}
 

@@ -26,13 +26,13 @@ use Rattle.dy_code.specs.Programs.{if_there, generic_row}
 use Rattle.dy_code.specs.Validity.{Every, IsValid}
 use Rattle.dy_lowered.specs.Bodies.{FlatBody, bodies_of}
 use Rattle.dy_lowering_law.specs.Machines.{linked_program}
-use Rattle.dy_lowered_valid.specs.Scoped.{IsScoped}
-use Rattle.dy_lowered_valid.specs.Valid.{FlatFound, GenericsAreThere}
-use Rattle.dy_lowered_valid.proofs.Laying.{every_append}
-use Rattle.dy_lowered_valid.proofs.Securing.{scoped_programs_may_run}
-use Rattle.dy_lowered_valid.proofs.Soundness.{got}
+use Rattle.dy_lowering_whole.specs.valid.Scoped.{IsScoped}
+use Rattle.dy_lowering_whole.specs.valid.Valid.{FlatFound, GenericsAreThere}
+use Rattle.dy_lowering_whole.proofs.valid.Laying.{every_append}
+use Rattle.dy_lowering_whole.proofs.valid.Securing.{scoped_programs_may_run}
+use Rattle.dy_lowering_whole.proofs.valid.Soundness.{got}
 use Rattle.dy_called_generics.specs.Called.{OwnGenericsAreThere, OwnProgramsMayRun, OwnProgramsEnd}
-use Rattle.dy_called_terms.specs.Called.{NamesKnown}
+use Rattle.dy_lowering_whole.specs.called.Called.{NamesKnown}
 use Rattle.dy_called_generics.proofs.Rows.{CodeKnown, FunctionKnown, TopKnown, SlotsKnown, RowKnown, rows_known}
 use Rattle.dy_called_generics.proofs.Bodies.{LibraryKnown, bodies_known, flat_every}
 use Rattle.dy_called_generics.proofs.Names.{IsOfDylan, IsOwn, own, IsNamed, AreWhole, names_whole}

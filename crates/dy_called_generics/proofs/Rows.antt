@@ -30,9 +30,9 @@ use Rattle.dy_rows.specs.Rows.{read_slots, read_variables, read_variable, read_t
 use Rattle.dy_library_rows.specs.Libraries.{Form, read_form, rows_of}
 use Rattle.dy_code.specs.declared.unit.Linked.{Linked}
 use Rattle.dy_code.specs.Validity.{Every}
-use Rattle.dy_lowered_valid.proofs.Laying.{every_append}
-use Rattle.dy_called_terms.specs.Called.{TermKnown, LambdaKnown, NamesKnown}
-use Rattle.dy_called_terms.proofs.Drafts.{term_known, lambda_known}
+use Rattle.dy_lowering_whole.proofs.valid.Laying.{every_append}
+use Rattle.dy_lowering_whole.specs.called.Called.{TermKnown, LambdaKnown, NamesKnown}
+use Rattle.dy_lowering_whole.proofs.called.Drafts.{term_known, lambda_known}
 
 module _ (linked : Linked) where
   abbrev pub InitKnown : Option Init → Type 0

@@ -4,8 +4,8 @@ use Rattle.std.specs.Prelude.{ℕ, List}
 use Rattle.dy_code.specs.Validity.{IsValid}
 use Rattle.dy_steps.specs.Standing.{EndsInTime}
 use Rattle.dy_lowering_law.specs.Machines.{linked_program, machine_of}
-use Rattle.dy_lowered_valid.specs.Scoped.{IsScoped}
-use Rattle.dy_lowered_valid.specs.Valid.{GenericsAreThere}
+use Rattle.dy_lowering_whole.specs.valid.Scoped.{IsScoped}
+use Rattle.dy_lowering_whole.specs.valid.Valid.{GenericsAreThere}
 use Rattle.dy_library_rows.specs.Libraries.{Form}
 use Rattle.dy_assembly.specs.Libraries.{own_library, program_with}
 

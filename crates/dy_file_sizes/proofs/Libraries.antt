@@ -8,9 +8,9 @@ use Rattle.dy_surface.specs.Forms.{draft_of}
 use Rattle.dy_names.specs.Outside.{Outside}
 use Rattle.dy_binding.specs.Reads.{none}
 use Rattle.dy_library_rows.specs.Libraries.{Form, read_form, rows_of}
-use Rattle.dy_lowered_sizes.specs.Nodes.{nodes_of_library}
-use Rattle.dy_lowered_sizes.specs.Sizes.{IsSmall}
-use Rattle.dy_lowered_sizes.proofs.Libraries.{units_small}
+use Rattle.dy_lowering_whole.specs.sizes.Nodes.{nodes_of_library}
+use Rattle.dy_lowering_whole.specs.sizes.Sizes.{IsSmall}
+use Rattle.dy_lowering_whole.proofs.sizes.Libraries.{units_small}
 use Rattle.dy_file_sizes.specs.Drafts.{draft_size}
 use Rattle.dy_file_sizes.specs.Rows.{nodes_of_rows, HasCodeOf}
 use Rattle.dy_file_sizes.specs.Files.{File, AreForms, IsRead, AreRead, forms_of, bytes_of}

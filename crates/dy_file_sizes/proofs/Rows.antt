@@ -26,7 +26,7 @@ use Rattle.dy_binding.specs.Types.{read_type}
 use Rattle.dy_resolution.specs.Terms.{core_term, core_lambda}
 use Rattle.dy_rows.specs.Rows.{has, bound_to, generic_of, method_rows, classes_of, read_init, read_slot, read_slots, read_variables, read_draft}
 use Rattle.dy_lowered.specs.Bodies.{all_slots}
-use Rattle.dy_lowered_sizes.specs.Nodes.{total, nodes_of_lambda, nodes_of_code, nodes_of_function, nodes_of_init, nodes_of_top, nodes_of_library}
+use Rattle.dy_lowering_whole.specs.sizes.Nodes.{total, nodes_of_lambda, nodes_of_code, nodes_of_function, nodes_of_init, nodes_of_top, nodes_of_library}
 use Rattle.dy_file_sizes.specs.Drafts.{init_size, slots_size, draft_size}
 use Rattle.dy_file_sizes.specs.Rows.{nodes_of_slots, nodes_of_row, nodes_of_rows, if_given, inits_of, code_lambda, method_lambdas, function_lambdas, row_inits, row_method, row_function, row_top, HasCodeOf}
 use Rattle.dy_file_sizes.proofs.Terms.{term_small, lambda_small}

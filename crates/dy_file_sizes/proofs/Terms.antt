@@ -41,8 +41,8 @@ use Rattle.dy_binding.specs.Bound.{count, number_of, bound_some, params_bound, m
 use Rattle.dy_binding.specs.Names.{denoted, owned, named, placed, assigned, hidden_term, head_of, called, is_next}
 use Rattle.dy_binding.specs.Types.{told_of, read_types, read_numbered, read_type, read_results, key_types, key_list, shape_of}
 use Rattle.dy_resolution.specs.Terms.{core_term, core_terms, core_maybe, core_choice, core_arms, core_items, core_item, core_methods, core_lambda, core_defaults, core_firsts, core_first, core_limit, core_clauses, core_clause, core_test, core_catches, values_operation, fresh}
-use Rattle.dy_lowered_sizes.specs.Nodes.{total, held, second, one_if, one_in, nodes_of_clause, nodes_of_item, nodes_of, nodes_of_block, nodes_of_for, nodes_of_lambda}
-use Rattle.dy_lowered_sizes.proofs.Marked.{clause_size_is, item_size_is, term_size_is, block_size_is, for_size_is, lambda_size_is}
+use Rattle.dy_lowering_whole.specs.sizes.Nodes.{total, held, second, one_if, one_in, nodes_of_clause, nodes_of_item, nodes_of, nodes_of_block, nodes_of_for, nodes_of_lambda}
+use Rattle.dy_lowering_whole.proofs.sizes.Marked.{clause_size_is, item_size_is, term_size_is, block_size_is, for_size_is, lambda_size_is}
 use Rattle.dy_file_sizes.specs.Drafts.{size, terms_size, maybe_size, choice_size, arms_size, items_size, item_size, methods_size, lambda_size, defaults_size, clauses_size, clause_size, limit_size, test_size, catches_size}
 
 -- nodes of lists of terms

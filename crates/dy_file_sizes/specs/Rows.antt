@@ -12,8 +12,8 @@ use Rattle.dy_term.specs.declared.rows.Row.{Row}
 use Rattle.dy_term.specs.declared.rows.Row.TheVariants as rows
 use Rattle.dy_term.specs.declared.rows.LibraryRow.{LibraryRow}
 use Rattle.dy_lowered.specs.Bodies.{all_slots}
-use Rattle.dy_lowered_sizes.specs.Nodes.{nodes_of_code, nodes_of_function, nodes_of_init}
-use Rattle.dy_lowered_sizes.specs.Nodes.{nodes_of_top}
+use Rattle.dy_lowering_whole.specs.sizes.Nodes.{nodes_of_code, nodes_of_function, nodes_of_init}
+use Rattle.dy_lowering_whole.specs.sizes.Nodes.{nodes_of_top}
 
 abbrev pub nodes_of_slots : List SlotRow → ℕ
 nodes_of_slots [] = 0

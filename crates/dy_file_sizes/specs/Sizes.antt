@@ -16,8 +16,8 @@ use Rattle.dy_names.specs.Outside.{Outside}
 use Rattle.dy_binding.specs.declared.progress.Progress.{Progress}
 use Rattle.dy_resolution.specs.Terms.{core_term}
 use Rattle.dy_library_rows.specs.Libraries.{Form, read_form, rows_of}
-use Rattle.dy_lowered_sizes.specs.Nodes.{nodes_of, nodes_of_library}
-use Rattle.dy_lowered_sizes.specs.Sizes.{IsSmall}
+use Rattle.dy_lowering_whole.specs.sizes.Nodes.{nodes_of, nodes_of_library}
+use Rattle.dy_lowering_whole.specs.sizes.Sizes.{IsSmall}
 use Rattle.dy_file_sizes.specs.Tokens.{tokens_of}
 use Rattle.dy_file_sizes.specs.Drafts.{size, draft_size}
 use Rattle.dy_file_sizes.specs.Rows.{nodes_of_rows, HasCodeOf}

@@ -6,7 +6,7 @@ use Rattle.dy_term.specs.declared.rows.Program.{Program}
 use Rattle.dy_code.specs.declared.unit.UnitCode.{UnitCode}
 use Rattle.dy_lowering_law.specs.Machines.{linked_program}
 use Rattle.dy_lowering_law.specs.Behaving.{Behaves}
-use Rattle.dy_lowered_valid.specs.Scoped.{IsScoped}
+use Rattle.dy_lowering_whole.specs.valid.Scoped.{IsScoped}
 use Rattle.dy_lowering_whole.specs.Lowered.{IsLowered}
 
 -- In each program that the library stands in, as far as programs are lowered yet, this is its code;

@@ -21,7 +21,7 @@ use Rattle.dy_term.specs.declared.rows.LibraryRow.{LibraryRow}
 use Rattle.dy_meaning.proofs.Induction.{by_terms, Clauses_with, Items_with, Terms_with, Blocks_with, Fors_with, Lambdas_with, clause_of, item_of, term_of, for_of, lambda_of}
 use Rattle.dy_lowered.specs.Readiness.{all_ready, held_ready, are_distinct, with_rest}
 use Rattle.dy_lowering_law.specs.Ready.{has_no_keywords, generic_ready, is_empty}
-use Rattle.dy_lowered_valid.proofs.Sameness.{both_true, and_true, no}
+use Rattle.dy_lowering_whole.proofs.valid.Sameness.{both_true, and_true, no}
 use Rattle.dy_lowering_whole.specs.Lowered.{second_lowered, clause_lowered, item_lowered, term_lowered, block_lowered, for_lowered, lambda_lowered, has_no_slots, is_lowered, is_item_lowered, is_lambda_lowered, is_code_lowered, is_function_lowered, is_top_lowered, is_library_lowered}
 use Rattle.dy_lower_kinds.specs.Kinds.{has_code, clause_has_code, item_has_code, for_has_code, lambda_has_code, method_has_code, function_has_code, init_has_code, class_has_code, top_has_code, library_has_code}
 use Rattle.dy_lower_kinds.proofs.Selecting.{term_layer, item_layer, clause_layer, for_layer, lambda_layer, term_is, item_is, clause_is, for_is, lambda_is, kind_lambda}

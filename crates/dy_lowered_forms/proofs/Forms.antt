@@ -28,9 +28,9 @@ use Rattle.dy_desugar.specs.Table.{core_of, arguments_of, lambda_of}
 use Rattle.dy_drafts.specs.Parts.{with_rest}
 use Rattle.dy_surface.specs.Forms.{initial, constant_by, constant_of, next_of, next_in, draft_of}
 use Rattle.dy_surface.specs.TypeConstants.{constant_type}
-use Rattle.dy_scoped_terms.proofs.Facts.{no_fault, untrue, both_true, and_true}
-use Rattle.dy_lowered_drafts.specs.Kinds as kinds
-use Rattle.dy_lowered_drafts.specs.Kinds.{names_next, is_usual}
+use Rattle.dy_scoped_rows.proofs.terms.Facts.{no_fault, untrue, both_true, and_true}
+use Rattle.dy_lowered_forms.specs.drafts.Kinds as kinds
+use Rattle.dy_lowered_forms.specs.drafts.Kinds.{names_next, is_usual}
 use Rattle.dy_lowered_forms.specs.Table.{runs}
 use Rattle.dy_lowered_forms.specs.Forms.{any_literal, RunningFormsAreLowered}
 use Rattle.dy_lowered_forms.proofs.Lists.{Run, left, right, of_three, of_five}

@@ -3,7 +3,7 @@ use Rattle.std.proofs.Common.{◌≡◌, Bool, true, false, ◌&&◌, List, [], 
 use Rattle.std.specs.List.{list_all}
 use Rattle.std.specs.Prelude.{if◌then◌else◌}
 use Rattle.dy_construct_parts.specs.declared.construct.Construct.{Construct}
-use Rattle.dy_scoped_terms.proofs.Facts.{untrue, both_true, and_true}
+use Rattle.dy_scoped_rows.proofs.terms.Facts.{untrue, both_true, and_true}
 use Rattle.dy_lowered_forms.specs.Table.{runs}
 
 abbrev pub Run : List Construct → Type 0

@@ -10,8 +10,8 @@ use Rattle.dy_construct_parts.specs.declared.construct.Construct.TheVariants.{Ne
 use Rattle.dy_construct_parts.specs.Words.{binary, unary, next_method}
 use Rattle.dy_drafts.specs.Shapes.{name_at}
 use Rattle.dy_drafts.specs.Parts.{unary_name, setter_at}
-use Rattle.dy_scoped_terms.proofs.Facts.{untrue}
-use Rattle.dy_lowered_drafts.specs.Kinds.{names_next}
+use Rattle.dy_scoped_rows.proofs.terms.Facts.{untrue}
+use Rattle.dy_lowered_forms.specs.drafts.Kinds.{names_next}
 use Rattle.dy_lowered_forms.specs.Table.{runs}
 use Rattle.dy_lowered_forms.proofs.Lists.{Run, first_runs}
 

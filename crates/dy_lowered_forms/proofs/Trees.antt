@@ -36,9 +36,9 @@ use Rattle.dy_desugar.specs.Table.{arguments_of, argument_of, items_in, item_of,
 use Rattle.dy_desugar.specs.Table.{defaults_of, alternatives_of, or_false, maybe_body, maybe_of}
 use Rattle.dy_desugar.specs.Table.{tests_of, cases_of, select_arms, for_clauses_of, for_clause_of}
 use Rattle.dy_desugar.specs.Table.{bound_of, stop_of, params_of, lambda_from, first_token}
-use Rattle.dy_scoped_terms.proofs.Facts.{untrue, both_true, and_true}
-use Rattle.dy_lowered_drafts.specs.Kinds as kinds
-use Rattle.dy_lowered_drafts.specs.Kinds.{names_next, takes_plainly}
+use Rattle.dy_scoped_rows.proofs.terms.Facts.{untrue, both_true, and_true}
+use Rattle.dy_lowered_forms.specs.drafts.Kinds as kinds
+use Rattle.dy_lowered_forms.specs.drafts.Kinds.{names_next, takes_plainly}
 use Rattle.dy_lowered_forms.specs.Table.{runs}
 use Rattle.dy_lowered_forms.specs.Forms.{any_literal}
 use Rattle.dy_lowered_forms.proofs.Lists.{Run, first_runs, others_run, left, right, together}

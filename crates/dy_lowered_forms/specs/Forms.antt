@@ -5,7 +5,7 @@ use Rattle.dy_rules.specs.Forms.{FormTree}
 use Rattle.dy_constructs.specs.Forms.{in_form}
 use Rattle.dy_term.specs.declared.literal.Literal.{Literal}
 use Rattle.dy_surface.specs.Forms.{draft_of}
-use Rattle.dy_lowered_drafts.specs.Kinds.{form_with}
+use Rattle.dy_lowered_forms.specs.drafts.Kinds.{form_with}
 use Rattle.dy_lowered_forms.specs.Table.{runs}
 
 -- Every construct that the form holds runs.

@@ -29,7 +29,8 @@ use Rattle.dy_lowering_law.specs.Force.{RowsFit}
 use Rattle.dy_lowering_law.specs.Following.{Spot, scope_of, standing, after, Comes, numbered, Holds, IsWord, AreWords, IsWordOrNone, IsKnown, IsRight, IsRightAfter, Follows}
 use Rattle.dy_lowering_law.specs.Machines.{linked_program, machine_of}
 use Rattle.dy_lowering_law.specs.Renumbering.{body_of, renumbered}
-use Rattle.dy_lowering_law.proofs.Leading.{steps_more, comes_by, comes_behind, stepped, then_comes, ends_at, inside_self, holds_front, holds_back}
+use Rattle.dy_steps.proofs.More.{steps_more}
+use Rattle.dy_lowering_law.proofs.Leading.{comes_by, comes_behind, stepped, then_comes, ends_at, inside_self, holds_front, holds_back}
 use Rattle.dy_lowering_law.proofs.Same.{read_same}
 
 pub then_falls : (units : ℕ) (o : Outcome) (go : List Variant → State → Outcome) → units_of o ≤ units → ((values : List Variant) (s : State) → units_of (go values s) ≤ s.fuel.left) → units_of (and_then o go) ≤ units

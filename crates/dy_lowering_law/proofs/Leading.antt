@@ -9,27 +9,12 @@ use Rattle.dy_code.specs.declared.unit.Linked.{Linked}
 use Rattle.dy_steps.specs.Configurations.{Config, Step, Goes, Stops, Stuck, Ending, Machine}
 use Rattle.dy_steps.specs.Rows.{unwound}
 use Rattle.dy_steps.specs.Steps.{act, obeyed, step, steps}
+use Rattle.dy_steps.proofs.More.{steps_more}
 use Rattle.dy_term.specs.declared.rows.Program.{Program}
 use Rattle.dy_lowered.specs.Flat.{Flat, Code, placed}
 use Rattle.dy_lowering_law.specs.Following.{Spot, standing, after, Comes, numbered, Holds, AreWords, IsRight, IsRightAfter}
 
 module _ (m : Machine) where
-  stopped : (count : ℕ) (ending : Ending) → steps m count (Stops ending) ≡ Stops ending
-  stopped zero ending = refl
-  stopped (suc count) ending = refl
-
-  stuck : (count : ℕ) → steps m count Stuck ≡ Stuck
-  stuck zero = refl
-  stuck (suc count) = refl
-
-  pub steps_more : (first more : ℕ) (s : Step) → steps m (first + more) s ≡ steps m more (steps m first s)
-  steps_more zero more s = let e : 0 + more ≡ more = omega arith in ap (λ n. steps m n s) e
-  steps_more (suc first) more (Goes c) =
-      let e : suc first + more ≡ suc (first + more) = omega arith in
-      ap (λ n. steps m n (Goes c)) e ∙ steps_more first more (step m c)
-  steps_more (suc first) more (Stops ending) = stopped (suc first + more) ending ∙ sym (stopped more ending)
-  steps_more (suc first) more Stuck = stuck (suc first + more) ∙ sym (stuck more)
-
   -- no step
   pub comes_at : (c : Config) (to : ℕ → Step) (searches : ℕ) → Goes c ≡ to searches → Comes m c to
   comes_at c to searches e = record { count = 0; searches = searches; there = e }
@@ -45,7 +30,7 @@ module _ (m : Machine) where
       record {
         count = first.count + more.count;
         searches = more.searches;
-        there = steps_more first.count more.count (Goes c) ∙ ap (steps m more.count) first.there ∙ more.there;
+        there = steps_more m first.count more.count (Goes c) ∙ ap (steps m more.count) first.there ∙ more.there;
       }
 
   -- a step first

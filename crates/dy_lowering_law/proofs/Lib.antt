@@ -10,3 +10,6 @@ pub mod Names
 pub mod Operating
 pub mod Same
 pub mod Values
+pub mod parts
+pub mod fors
+pub mod calls

@@ -5,3 +5,6 @@ pub mod Kinds
 pub mod Machines
 pub mod Ready
 pub mod Renumbering
+pub mod parts
+pub mod fors
+pub mod calls

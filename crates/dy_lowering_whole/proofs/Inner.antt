@@ -15,10 +15,10 @@ use Rattle.dy_meaning.specs.Lambdas.{Inside, of_all, of_held, of_pairs, of_arms,
 use Rattle.dy_meaning.proofs.Induction.{by_terms, Clauses_with, Items_with, Terms_with, Blocks_with, Fors_with, Lambdas_with, clause_of, item_of, term_of, for_of, lambda_of}
 use Rattle.dy_lowered.specs.Readiness.{all_ready, held_ready, are_distinct, with_rest}
 use Rattle.dy_lowering_law.specs.Ready.{has_no_keywords, is_empty}
-use Rattle.dy_lowered_valid.proofs.Evenness.{beside}
-use Rattle.dy_lowered_valid.proofs.Laying.{every_append}
-use Rattle.dy_lowered_valid.proofs.Sameness.{both_true, no}
-use Rattle.dy_lowered_valid.proofs.Scopes.{clause_held, for_held, clause_held_is, for_held_is}
+use Rattle.dy_lowering_whole.proofs.valid.Evenness.{beside}
+use Rattle.dy_lowering_whole.proofs.valid.Laying.{every_append}
+use Rattle.dy_lowering_whole.proofs.valid.Sameness.{both_true, no}
+use Rattle.dy_lowering_whole.proofs.valid.Scopes.{clause_held, for_held, clause_held_is, for_held_is}
 use Rattle.dy_lowering_whole.specs.Lowered.{second_lowered, is_lowered, is_item_lowered, is_lambda_lowered}
 use Rattle.dy_lowering_whole.proofs.Scoping.{is_clause_lowered, is_for_lowered, clause_lowered_layer, for_lowered_layer, clause_lowered_is, for_lowered_is, lowered_layer, item_lowered_layer, lambda_lowered_layer, lowered_is, item_lowered_is, lambda_lowered_is, held_layer, item_held_layer, lambda_held_layer, held_is, item_held_is, lambda_held_is}
 

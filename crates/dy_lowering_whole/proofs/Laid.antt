@@ -30,21 +30,21 @@ use Rattle.dy_lowering_law.specs.Following.{Holds}
 use Rattle.dy_lowering_law.specs.Machines.{linked_program}
 use Rattle.dy_lowering_law.specs.Ready.{generic_ready, is_empty, IsReady}
 use Rattle.dy_lowering_law.specs.Renumbering.{body_of}
-use Rattle.dy_lowering_parts.proofs.Answering.{all_taken}
-use Rattle.dy_lowering_calls.specs.Belonging.{bodies_before, Belongs}
-use Rattle.dy_lowering_calls.specs.Calls.{CallsStand}
-use Rattle.dy_lowering_calls.specs.Entering.{IsPlain}
-use Rattle.dy_lowering_calls.specs.Standing.{IsLaid, LambdasFollow}
-use Rattle.dy_lowering_calls.proofs.Belonging.{lambdas_belong}
-use Rattle.dy_lowering_calls.proofs.Nested.{Nested, none_nested, joined, with_nested, in_term, in_lambda}
-use Rattle.dy_lowering_calls.proofs.Standing.{bodies_stand, calls_always_stand}
-use Rattle.dy_lowered_valid.specs.Scoped.{is_code_scoped, is_function_scoped, is_init_scoped, is_top_scoped, is_library_scoped, IsScoped}
-use Rattle.dy_lowered_valid.proofs.Fetched.{every_at}
-use Rattle.dy_lowered_valid.proofs.Laying.{every_append}
-use Rattle.dy_lowered_valid.proofs.Readying.{all_at, program_ok}
-use Rattle.dy_lowered_valid.proofs.Sameness.{both_true, no}
-use Rattle.dy_lowered_valid.proofs.Scopes.{IsBodyScoped, AreGood, good_lambdas, good_lambda}
-use Rattle.dy_lowered_valid.proofs.Securing.{scoped_bodies_hold}
+use Rattle.dy_lowering_law.proofs.parts.Answering.{all_taken}
+use Rattle.dy_lowering_law.specs.calls.Belonging.{bodies_before, Belongs}
+use Rattle.dy_lowering_law.specs.calls.Calls.{CallsStand}
+use Rattle.dy_lowering_law.specs.calls.Entering.{IsPlain}
+use Rattle.dy_lowering_law.specs.calls.Standing.{IsLaid, LambdasFollow}
+use Rattle.dy_lowering_law.proofs.calls.Belonging.{lambdas_belong}
+use Rattle.dy_lowering_law.proofs.calls.Nested.{Nested, none_nested, joined, with_nested, in_term, in_lambda}
+use Rattle.dy_lowering_law.proofs.calls.Standing.{bodies_stand, calls_always_stand}
+use Rattle.dy_lowering_whole.specs.valid.Scoped.{is_code_scoped, is_function_scoped, is_init_scoped, is_top_scoped, is_library_scoped, IsScoped}
+use Rattle.dy_lowering_whole.proofs.valid.Fetched.{every_at}
+use Rattle.dy_lowering_whole.proofs.valid.Laying.{every_append}
+use Rattle.dy_lowering_whole.proofs.valid.Readying.{all_at, program_ok}
+use Rattle.dy_lowering_whole.proofs.valid.Sameness.{both_true, no}
+use Rattle.dy_lowering_whole.proofs.valid.Scopes.{IsBodyScoped, AreGood, good_lambdas, good_lambda}
+use Rattle.dy_lowering_whole.proofs.valid.Securing.{scoped_bodies_hold}
 use Rattle.dy_lowering_whole.specs.Lowered.{has_no_slots, is_lambda_lowered, is_code_lowered, is_function_lowered, is_top_lowered, is_library_lowered, IsLowered}
 use Rattle.dy_lowering_whole.proofs.Inner.{AllLowered, lowered_inside, lowered_lambda, lowered_within, within_is, defaults_none}
 use Rattle.dy_lowering_whole.proofs.Numbered.{Numbers, moved}

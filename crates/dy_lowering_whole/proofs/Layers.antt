@@ -14,7 +14,7 @@ use Rattle.dy_outcome.specs.Calls.{Calls}
 use Rattle.dy_meaning.specs.Layouts.{Layout}
 use Rattle.dy_meaning.specs.Meaning.{clause_does, item_does, term_does, block_does, for_does, clause_meaning, item_meaning, meaning, block_meaning, for_meaning, lambda_meaning}
 use Rattle.dy_lowered.specs.Readiness.{clause_ready, item_ready, term_ready, block_ready, for_ready, lambda_ready, is_ready, is_item_ready}
-use Rattle.dy_lowered_valid.proofs.Evenness.{beside}
+use Rattle.dy_lowering_whole.proofs.valid.Evenness.{beside}
 
 module _ (program : Program) (calls : Calls) (layout : Layout) where
   abbrev pub clause_meant_layer : ForClause-F ForClause Item Term BlockRow ForRow Lambda → ℕ → Clause

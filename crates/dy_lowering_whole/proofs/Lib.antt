@@ -10,3 +10,6 @@ pub mod Meaning
 pub mod Calling
 pub mod Tasks
 pub mod Programs
+pub mod valid
+pub mod sizes
+pub mod called

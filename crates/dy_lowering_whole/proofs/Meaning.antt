@@ -29,7 +29,7 @@ use Rattle.dy_meaning.specs.Layouts.{Layout, place_of}
 use Rattle.dy_meaning.specs.Meaning.{with_made, identity, or_no_match, selecting_in, no_number, closing_of, methods_from, clause_meaning, item_meaning, meaning, block_meaning, for_meaning, lambda_meaning}
 use Rattle.dy_meaning.specs.Numbering.{Numbered, terms_from, behind_terms, items_from, clauses_from, behind_clauses, branches_from, behind_branches, arms_from, behind_arms, held_from, behind_held, second_from, behind_second}
 use Rattle.dy_meaning.proofs.Induction.{by_terms, Clauses_with, Items_with, Terms_with, Blocks_with, Fors_with, Lambdas_with, clause_of, item_of, term_of, for_of}
-use Rattle.dy_lowered_valid.proofs.Evenness.{beside}
+use Rattle.dy_lowering_whole.proofs.valid.Evenness.{beside}
 use Rattle.dy_lowering_whole.specs.Unexited.{IsNoExit, NeverExits}
 use Rattle.dy_lowering_whole.proofs.Layers.{clause_meant_layer, item_meant_layer, term_meant_layer, block_meant_layer, for_meant_layer, clause_meant, item_meant, term_meant, block_meant, for_meant}
 use Rattle.dy_lowering_whole.proofs.Staying.{then_stays, with_stays, assigning_stays, letting_stays, closing_stays, methods_stay, PartStays, body_stays, PairStays, branching_stays, both_stays, either_stays, ArmStays, HeldStays, select_stays, loop_stays, BesideStays, ClauseStays, for_stays}

@@ -6,7 +6,7 @@ use Rattle.dy_term.specs.declared.term.Lambda.{Lambda}
 use Rattle.dy_term.specs.declared.rows.Program.{Program}
 use Rattle.dy_meaning.specs.Lambdas.{Inside, of_all, of_pairs, of_arms, of_held, lambdas_in}
 use Rattle.dy_meaning.specs.Numbering.{Numbered, behind_terms, behind_branches, behind_arms, behind_held}
-use Rattle.dy_lowered_valid.proofs.Evenness.{beside}
+use Rattle.dy_lowering_whole.proofs.valid.Evenness.{beside}
 use Rattle.dy_lowering_law.specs.Behaving.{IsNumbered, AreNumberedFrom}
 
 module _ (program : Program) (before : ℕ) where

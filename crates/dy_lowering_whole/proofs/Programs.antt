@@ -36,13 +36,14 @@ use Rattle.dy_lowering_law.specs.Renumbering.{body_of, renumbered, renumbered_st
 use Rattle.dy_lowering_law.proofs.Arguments.{then_assoc}
 use Rattle.dy_lowering_law.proofs.Cases.{first_word, less_words}
 use Rattle.dy_lowering_law.proofs.Names.{words_set}
-use Rattle.dy_lowering_law.proofs.Leading.{steps_more, holds_front, holds_back, stepped}
+use Rattle.dy_steps.proofs.More.{steps_more}
+use Rattle.dy_lowering_law.proofs.Leading.{holds_front, holds_back, stepped}
 use Rattle.dy_lowering_whole.specs.Unexited.{IsNoExit}
 use Rattle.dy_lowering_whole.proofs.Calling.{no_term_exits}
-use Rattle.dy_lowered_valid.specs.Scoped.{IsScoped}
+use Rattle.dy_lowering_whole.specs.valid.Scoped.{IsScoped}
 use Rattle.dy_lowering_whole.specs.Lowered.{IsLowered}
 use Rattle.dy_lowering_whole.proofs.Readied.{lowered_of_ready}
-use Rattle.dy_lowered_valid.proofs.Readying.{program_ok}
+use Rattle.dy_lowering_whole.proofs.valid.Readying.{program_ok}
 use Rattle.dy_lowering_law.specs.Ready.{IsReady}
 use Rattle.dy_lowering_whole.proofs.Tasks.{Form, IsTask, AreTasks, all_tasks}
 

@@ -24,7 +24,7 @@ use Rattle.dy_meaning.specs.Numbers.{numbers_in}
 use Rattle.dy_meaning.proofs.Induction.{by_terms, Clauses_with, Items_with, Terms_with, Blocks_with, Fors_with, Lambdas_with, item_of, term_of}
 use Rattle.dy_lowered.specs.Readiness.{all_ready, held_ready, is_set, is_own, are_distinct, are_bound, with_rest, is_ready, is_item_ready}
 use Rattle.dy_lowering_law.specs.Ready.{has_no_keywords, generic_ready, is_empty, lambda_ready, code_ready, function_ready, top_ready, library_ready, IsReady}
-use Rattle.dy_lowered_valid.proofs.Sameness.{both_true, and_true, no}
+use Rattle.dy_lowering_whole.proofs.valid.Sameness.{both_true, and_true, no}
 use Rattle.dy_lowering_whole.specs.Lowered.{has_no_slots, is_lowered, is_item_lowered, is_lambda_lowered, is_code_lowered, is_function_lowered, is_top_lowered, is_library_lowered, IsLowered}
 use Rattle.dy_lowering_whole.proofs.Layers.{ready_layer, item_ready_layer, ready_is, item_ready_is}
 use Rattle.dy_lowering_whole.proofs.Scoping.{lowered_layer, item_lowered_layer, lambda_lowered_layer, lowered_is, item_lowered_is, lambda_lowered_is}

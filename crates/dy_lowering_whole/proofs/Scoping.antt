@@ -8,8 +8,8 @@ use Rattle.dy_term.specs.declared.term.BlockRow.{BlockRow, fold-BlockRow}
 use Rattle.dy_term.specs.declared.term.ForRow.{ForRow, ForRow-F, roll-ForRow, map-ForRow, fold-ForRow, fold-roll-ForRow}
 use Rattle.dy_term.specs.declared.term.Lambda.{Lambda, Lambda-F, roll-Lambda, map-Lambda, para-roll-Lambda, fold-roll-Lambda}
 use Rattle.dy_meaning.specs.Lambdas.{item_lambdas, term_lambdas, lambda_lambdas, lambdas_in_clause, lambdas_in_item, lambdas_in, lambdas_in_block, lambdas_in_for, lambdas_within}
-use Rattle.dy_lowered_valid.specs.Scoped.{Scoping, item_scoped, term_scoped, is_clause_scoped, is_item_scoped, is_scoped, is_block_scoped, is_for_scoped, is_lambda_scoped}
-use Rattle.dy_lowered_valid.proofs.Evenness.{beside}
+use Rattle.dy_lowering_whole.specs.valid.Scoped.{Scoping, item_scoped, term_scoped, is_clause_scoped, is_item_scoped, is_scoped, is_block_scoped, is_for_scoped, is_lambda_scoped}
+use Rattle.dy_lowering_whole.proofs.valid.Evenness.{beside}
 use Rattle.dy_lowering_whole.specs.Lowered.{clause_lowered, item_lowered, term_lowered, block_lowered, for_lowered, lambda_lowered, is_lowered, is_item_lowered, is_lambda_lowered}
 
 abbrev pub scope_layer : Term-F ForClause Item Term BlockRow ForRow Lambda → Scoping

@@ -22,13 +22,13 @@ use Rattle.dy_lowered.specs.Units.{lowered, body_of as unit_body}
 use Rattle.dy_lowering_law.specs.Following.{Holds, Follows}
 use Rattle.dy_lowering_law.specs.Machines.{linked_program}
 use Rattle.dy_lowering_law.specs.Renumbering.{library_numbers}
-use Rattle.dy_lowering_calls.specs.Belonging.{bodies_before}
-use Rattle.dy_lowering_calls.proofs.Binding.{length_from}
-use Rattle.dy_lowering_calls.proofs.Numbers.{right_of, from_get, function_lambda, of_class_numbers, of_method_numbers, of_variable_numbers, of_form_numbers, classes_at, variables_at as variables_behind, forms_at as forms_behind, methods_long, numbers_long, before as before_of, before_same, has_number}
-use Rattle.dy_lowered_valid.specs.Scoped.{is_top_scoped, IsScoped}
-use Rattle.dy_lowered_valid.proofs.Fetched.{body_located}
-use Rattle.dy_lowered_valid.proofs.Positions.{give_top, get_before, get_behind, forms_at, methods_part, variables_part, slots_part, forms_part, closures_part, behind_slots, behind_variables, behind_methods, parts_are, methods_length, variables_length, slots_length}
-use Rattle.dy_lowered_valid.proofs.Readying.{all_at}
+use Rattle.dy_lowering_law.specs.calls.Belonging.{bodies_before}
+use Rattle.dy_lowering_law.proofs.calls.Binding.{length_from}
+use Rattle.dy_lowering_law.proofs.calls.Numbers.{right_of, from_get, function_lambda, of_class_numbers, of_method_numbers, of_variable_numbers, of_form_numbers, classes_at, variables_at as variables_behind, forms_at as forms_behind, methods_long, numbers_long, before as before_of, before_same, has_number}
+use Rattle.dy_lowering_whole.specs.valid.Scoped.{is_top_scoped, IsScoped}
+use Rattle.dy_lowering_whole.proofs.valid.Fetched.{body_located}
+use Rattle.dy_lowering_whole.proofs.valid.Positions.{give_top, get_before, get_behind, forms_at, methods_part, variables_part, slots_part, forms_part, closures_part, behind_slots, behind_variables, behind_methods, parts_are, methods_length, variables_length, slots_length}
+use Rattle.dy_lowering_whole.proofs.valid.Readying.{all_at}
 use Rattle.dy_lowering_whole.specs.Lowered.{is_top_lowered, IsLowered}
 use Rattle.dy_lowering_whole.proofs.Laid.{body_holds, library_is, calls_stand}
 use Rattle.dy_lowering_whole.proofs.Numbered.{Numbers}

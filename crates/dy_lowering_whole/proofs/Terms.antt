@@ -47,26 +47,26 @@ use Rattle.dy_lowering_law.proofs.Cases.{read_follows}
 use Rattle.dy_lowering_law.proofs.Literals.{literal_follows, both_follows}
 use Rattle.dy_lowering_law.proofs.Names.{names_follow}
 use Rattle.dy_lowering_law.proofs.Values.{branching_follows, assigning_follows}
-use Rattle.dy_lowering_parts.specs.Selects.{HeldDo, ArmsDo}
-use Rattle.dy_lowering_parts.proofs.Bound.{own_at, let_items_follow}
-use Rattle.dy_lowering_parts.proofs.Looping.{loop_follows}
-use Rattle.dy_lowering_parts.proofs.Selects.{select_follows}
-use Rattle.dy_lowering_calls.specs.Calls.{CallsStand}
-use Rattle.dy_lowering_calls.proofs.Taking as taking
-use Rattle.dy_lowered_valid.proofs.Evenness.{beside, clause_layer, term_layer, item_layer, for_layer, clause_is, term_is, item_is, for_is}
-use Rattle.dy_lowered_valid.proofs.Sameness.{both_true, and_true, no}
+use Rattle.dy_lowering_law.specs.parts.Selects.{HeldDo, ArmsDo}
+use Rattle.dy_lowering_law.proofs.parts.Bound.{own_at, let_items_follow}
+use Rattle.dy_lowering_law.proofs.parts.Looping.{loop_follows}
+use Rattle.dy_lowering_law.proofs.parts.Selects.{select_follows}
+use Rattle.dy_lowering_law.specs.calls.Calls.{CallsStand}
+use Rattle.dy_lowering_law.proofs.calls.Taking as taking
+use Rattle.dy_lowering_whole.proofs.valid.Evenness.{beside, clause_layer, term_layer, item_layer, for_layer, clause_is, term_is, item_is, for_is}
+use Rattle.dy_lowering_whole.proofs.valid.Sameness.{both_true, and_true, no}
 use Rattle.dy_lowering_whole.proofs.Layers.{clause_meant_layer, item_meant_layer, term_meant_layer, for_meant_layer, clause_meant, item_meant, term_meant, for_meant}
 use Rattle.dy_lowering_whole.specs.Lowered.{second_lowered, is_lowered, is_item_lowered}
 use Rattle.dy_lowering_whole.proofs.Scoping.{is_clause_lowered, is_for_lowered, clause_lowered_layer, for_lowered_layer, clause_lowered_is, for_lowered_is, scope_layer, item_scope_layer, scope_is, item_scope_is, lowered_layer, item_lowered_layer, lowered_is, item_lowered_is, held_layer, item_held_layer, held_is, item_held_is}
 use Rattle.dy_lowering_whole.proofs.Numbered.{Numbers as AreLaid, front, back, moved, first_one, behind_terms_is, behind_branches_is, behind_arms_is, behind_held_is}
-use Rattle.dy_lowered_valid.specs.Scoped.{Scoping, all_scoped, held_scoped, second_scoped, pairs_scoped, arms_scoped, methods_scoped, are_own, is_clause_scoped, is_for_scoped, is_item_scoped, is_scoped, is_lambda_scoped}
-use Rattle.dy_lowered_valid.proofs.Readying.{ready_scoped}
-use Rattle.dy_lowered_valid.proofs.Scopes.{at_layer, clause_scope, for_scope, clause_scope_is, for_scope_is, clause_held, for_held, clause_held_is, for_held_is}
-use Rattle.dy_lowering_for.specs.Loops.{AmountDoes, LimitDoes, StepDoes, TestDoes, ClauseDoes, ClausesDo}
-use Rattle.dy_lowering_for.proofs.Fors.{fors_follow}
+use Rattle.dy_lowering_whole.specs.valid.Scoped.{Scoping, all_scoped, held_scoped, second_scoped, pairs_scoped, arms_scoped, methods_scoped, are_own, is_clause_scoped, is_for_scoped, is_item_scoped, is_scoped, is_lambda_scoped}
+use Rattle.dy_lowering_whole.proofs.valid.Readying.{ready_scoped}
+use Rattle.dy_lowering_whole.proofs.valid.Scopes.{at_layer, clause_scope, for_scope, clause_scope_is, for_scope_is, clause_held, for_held, clause_held_is, for_held_is}
+use Rattle.dy_lowering_law.specs.fors.Loops.{AmountDoes, LimitDoes, StepDoes, TestDoes, ClauseDoes, ClausesDo}
+use Rattle.dy_lowering_law.proofs.fors.Fors.{fors_follow}
 use Rattle.dy_lowering_whole.proofs.Readied.{ready_lowered}
-use Rattle.dy_lowering_parts.specs.Closures.{Methods, StandThere, lambdas_among}
-use Rattle.dy_lowering_parts.proofs.Closing.{closing_follows, items_follow}
+use Rattle.dy_lowering_law.specs.parts.Closures.{Methods, StandThere, lambdas_among}
+use Rattle.dy_lowering_law.proofs.parts.Closing.{closing_follows, items_follow}
 
 module _ (program : Program) (n before last : ℕ) (layout : Layout) (stand : CallsStand program n) where
   abbrev calls : Calls

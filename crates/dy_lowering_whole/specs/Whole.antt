@@ -9,9 +9,9 @@ use Rattle.dy_lowered.specs.Terms.{code_of}
 use Rattle.dy_lowering_law.specs.Behaving.{AreNumbered, TermsFollow, Behaves}
 use Rattle.dy_lowering_law.specs.Following.{Follows}
 use Rattle.dy_lowering_law.specs.Ready.{IsReady}
-use Rattle.dy_lowering_calls.specs.Calls.{CallsStand}
+use Rattle.dy_lowering_law.specs.calls.Calls.{CallsStand}
 use Rattle.dy_prims.specs.Rows.{dylan_row, io_row}
-use Rattle.dy_lowered_valid.specs.Scoped.{is_scoped, IsScoped}
+use Rattle.dy_lowering_whole.specs.valid.Scoped.{is_scoped, IsScoped}
 use Rattle.dy_lowering_whole.specs.Lowered.{is_lowered, IsLowered}
 
 -- Where calls stand, the code of each term that is lowered yet does what the term does.

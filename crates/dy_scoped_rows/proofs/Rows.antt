@@ -29,12 +29,12 @@ use Rattle.dy_rows.specs.Rows.{read_variable, read_variables, read_top, read_dra
 use Rattle.dy_library_rows.specs.Libraries.{Form, or_fault, limit_of, rows_of, first_fault}
 use Rattle.dy_library_rows.specs.Libraries.{first_limit, told, IsLibrary, read_form}
 use Rattle.dy_meaning.specs.Numbers.{numbers_in}
-use Rattle.dy_lowered_valid.specs.Scoped.{is_scoped, is_lambda_scoped}
+use Rattle.dy_lowering_whole.specs.valid.Scoped.{is_scoped, is_lambda_scoped}
 use Rattle.dy_lowering_whole.specs.Lowered.{is_lowered, is_lambda_lowered}
 use Rattle.dy_scoped_rows.specs.Scoped.{is_row_scoped, is_row_lowered, RowsInScope}
-use Rattle.dy_scoped_terms.proofs.Facts.{no_fault, untrue, both_true, and_true}
-use Rattle.dy_scoped_terms.proofs.Below.{standing_below}
-use Rattle.dy_scoped_terms.proofs.Scoping.{type_next, terms_in_scope, lambdas_in_scope}
+use Rattle.dy_scoped_rows.proofs.terms.Facts.{no_fault, untrue, both_true, and_true}
+use Rattle.dy_scoped_rows.proofs.terms.Below.{standing_below}
+use Rattle.dy_scoped_rows.proofs.terms.Scoping.{type_next, terms_in_scope, lambdas_in_scope}
 
 abbrev Scoped : List Row → Type 0
 Scoped rs = list_all is_row_scoped rs ≡ true

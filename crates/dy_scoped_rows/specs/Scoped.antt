@@ -6,8 +6,8 @@ use Rattle.dy_term.specs.declared.rows.Row.TheVariants as rows
 use Rattle.dy_names.specs.Outside.{Outside}
 use Rattle.dy_library_rows.specs.Libraries.{Form, IsLibrary}
 use Rattle.dy_lowering_law.specs.Ready.{generic_ready}
-use Rattle.dy_lowered_valid.specs.Scoped.{is_init_scoped, is_code_scoped, is_function_scoped}
-use Rattle.dy_lowered_valid.specs.Scoped.{is_top_scoped}
+use Rattle.dy_lowering_whole.specs.valid.Scoped.{is_init_scoped, is_code_scoped, is_function_scoped}
+use Rattle.dy_lowering_whole.specs.valid.Scoped.{is_top_scoped}
 use Rattle.dy_lowering_whole.specs.Lowered.{is_code_lowered, is_function_lowered, is_top_lowered}
 
 -- a row whose terms are in scope

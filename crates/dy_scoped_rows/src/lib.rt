@@ -2,5 +2,7 @@
 #![tactic(auto)]
 
 mod laws;
+mod terms_law;
 
 pub use laws::scoped_row_laws;
+pub use terms_law::scoped_laws;

@@ -11,15 +11,15 @@ use Rattle.dy_term.specs.declared.rows.LibraryRow.{LibraryRow}
 use Rattle.dy_prims.specs.Rows.{dylan_row, io_row}
 use Rattle.dy_library_rows.specs.Names.{outside_with}
 use Rattle.dy_library_rows.specs.Libraries.{Form, rows_of}
-use Rattle.dy_lowered_valid.specs.Scoped.{is_library_scoped}
+use Rattle.dy_lowering_whole.specs.valid.Scoped.{is_library_scoped}
 use Rattle.dy_lowering_whole.specs.Lowered.{is_library_lowered}
 use Rattle.dy_lowering_whole.specs.Whole.{BuiltInAreLowered}
 use Rattle.dy_lowering_whole.proofs.Programs.{lowered_programs_behave}
-use Rattle.dy_scoped_terms.proofs.Facts.{both_true, and_true}
+use Rattle.dy_scoped_rows.proofs.terms.Facts.{both_true, and_true}
 use Rattle.dy_scoped_rows.specs.Scoped.{is_row_lowered, is_row_scoped}
 use Rattle.dy_scoped_rows.proofs.Rows.{rows_in_scope}
-use Rattle.dy_lowered_drafts.specs.Plain.{is_form_plain}
-use Rattle.dy_lowered_drafts.proofs.Rows.{forms_lowered}
+use Rattle.dy_lowered_forms.specs.drafts.Plain.{is_form_plain}
+use Rattle.dy_lowered_forms.proofs.drafts.Rows.{forms_lowered}
 use Rattle.dy_word_numbers.specs.Tokens.{tokens_of, wide_tokens}
 use Rattle.dy_word_numbers.proofs.Tokens.{tokens_words, groups_wide}
 use Rattle.dy_assembly.specs.Libraries.{own_heading, own_names, drafts_of, own_library, wrong_with, program_with}

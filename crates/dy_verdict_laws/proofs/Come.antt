@@ -5,7 +5,7 @@ use Rattle.std.specs.List.{list_all}
 use Rattle.dy_construct_parts.specs.declared.construct.Construct.{Construct}
 use Rattle.dy_construct_parts.specs.declared.construct.Construct.TheVariants as constructs
 use Rattle.dy_construct_parts.specs.Table.{has_come, absent, first_absent}
-use Rattle.dy_scoped_terms.proofs.Facts.{no_fault, untrue, and_true}
+use Rattle.dy_scoped_rows.proofs.terms.Facts.{no_fault, untrue, and_true}
 use Rattle.dy_lowered_forms.specs.Table.{runs}
 
 come_runs : (construct : Construct) → has_come construct ≡ true → runs construct ≡ true

@@ -13,8 +13,8 @@ use Rattle.dy_construct_parts.specs.Table.{first_absent}
 use Rattle.dy_constructs.specs.Forms.{in_form}
 use Rattle.dy_surface.specs.Forms.{draft_of}
 use Rattle.dy_library_rows.specs.Libraries.{Form, or_fault}
-use Rattle.dy_scoped_terms.proofs.Facts.{no_fault, both_true, and_true}
-use Rattle.dy_lowered_drafts.specs.Plain.{is_form_plain}
+use Rattle.dy_scoped_rows.proofs.terms.Facts.{no_fault, both_true, and_true}
+use Rattle.dy_lowered_forms.specs.drafts.Plain.{is_form_plain}
 use Rattle.dy_lowered_forms.proofs.Forms.{forms_plain}
 use Rattle.dy_word_numbers.specs.Drafts.{draft_wide}
 use Rattle.dy_word_numbers.specs.Tokens.{tokens_in, tokens_of}

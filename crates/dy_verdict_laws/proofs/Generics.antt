@@ -14,9 +14,9 @@ use Rattle.dy_term.specs.Rows.{variable_row, top_term}
 use Rattle.dy_names.specs.Naming.{Table}
 use Rattle.dy_generics.specs.Implicit.{plain_generic}
 use Rattle.dy_lowering_law.specs.Ready.{generic_ready}
-use Rattle.dy_scoped_terms.proofs.Facts.{untrue, both_true, and_true}
-use Rattle.dy_lowered_drafts.specs.Kinds.{takes_plainly, is_usual}
-use Rattle.dy_lowered_drafts.specs.Plain.{is_plain, is_lambda_plain, is_form_plain}
+use Rattle.dy_scoped_rows.proofs.terms.Facts.{untrue, both_true, and_true}
+use Rattle.dy_lowered_forms.specs.drafts.Kinds.{takes_plainly, is_usual}
+use Rattle.dy_lowered_forms.specs.drafts.Plain.{is_plain, is_lambda_plain, is_form_plain}
 use Rattle.dy_assembly.specs.Generics.{Offer, number_in, made_by_method, made_by, defined_by, offers, with_number, numbered, generics_of}
 
 abbrev Ready : List (ℕ × GenericRow) → Type 0

@@ -10,11 +10,11 @@ use Rattle.dy_term.specs.declared.rows.Row.TheVariants as rows
 use Rattle.dy_term.specs.Rows.{CoreDraft}
 use Rattle.dy_names.specs.Naming.{Table}
 use Rattle.dy_lowering_law.specs.Ready.{generic_ready}
-use Rattle.dy_lowered_valid.specs.Scoped.{is_init_scoped, is_code_scoped, is_function_scoped, is_top_scoped, is_library_scoped}
+use Rattle.dy_lowering_whole.specs.valid.Scoped.{is_init_scoped, is_code_scoped, is_function_scoped, is_top_scoped, is_library_scoped}
 use Rattle.dy_lowering_whole.specs.Lowered.{is_code_lowered, is_function_lowered, is_top_lowered, has_no_slots, is_library_lowered}
-use Rattle.dy_scoped_terms.proofs.Facts.{untrue, both_true, and_true}
+use Rattle.dy_scoped_rows.proofs.terms.Facts.{untrue, both_true, and_true}
 use Rattle.dy_scoped_rows.specs.Scoped.{is_row_scoped, is_row_lowered}
-use Rattle.dy_lowered_drafts.specs.Plain.{is_form_plain}
+use Rattle.dy_lowered_forms.specs.drafts.Plain.{is_form_plain}
 use Rattle.dy_assembly.specs.declared.library.Heading.{Heading}
 use Rattle.dy_assembly.specs.Libraries.{class_in, generic_in, method_in, variable_in, top_in, library_of}
 use Rattle.dy_verdict_laws.proofs.Generics.{generics_ready}

@@ -2,7 +2,7 @@
 use Rattle.std.specs.Prelude.{◌≡◌, ℕ, List}
 use Rattle.dy_term.specs.declared.rows.LibraryRow.{LibraryRow}
 use Rattle.dy_lowering_law.specs.Behaving.{Behaves}
-use Rattle.dy_lowered_valid.specs.Scoped.{IsScoped}
+use Rattle.dy_lowering_whole.specs.valid.Scoped.{IsScoped}
 use Rattle.dy_lowering_whole.specs.Lowered.{IsLowered}
 use Rattle.dy_assembly.specs.Libraries.{program_with}
 use Rattle.dy_verdict.specs.Verdicts.{Verdict, accepted, IsVerdict}

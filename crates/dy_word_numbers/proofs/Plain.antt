@@ -13,14 +13,14 @@ use Rattle.dy_term.specs.Rows as forms
 use Rattle.dy_term.specs.Rows.{CoreDraft, class_row, generic_row, method_row, domain_row}
 use Rattle.dy_term.specs.Rows.{variable_row, top_term, CoreVariable, CoreTop}
 use Rattle.dy_lowered.specs.Words.{is_word_literal}
-use Rattle.dy_scoped_terms.proofs.Facts.{untrue, both_true, and_true}
-use Rattle.dy_lowered_drafts.specs.Kinds as kinds
-use Rattle.dy_lowered_drafts.specs.Kinds.{is_usual, takes_plainly}
-use Rattle.dy_lowered_drafts.specs.Plain.{is_plain, are_plain, is_maybe_plain, is_choice_plain}
-use Rattle.dy_lowered_drafts.specs.Plain.{are_arms_plain, are_items_plain, is_item_plain}
-use Rattle.dy_lowered_drafts.specs.Plain.{are_methods_plain, is_lambda_plain, are_clauses_plain}
-use Rattle.dy_lowered_drafts.specs.Plain.{is_clause_plain, is_limit_plain, is_test_plain}
-use Rattle.dy_lowered_drafts.specs.Plain.{is_variable_plain, is_top_plain, is_form_plain}
+use Rattle.dy_scoped_rows.proofs.terms.Facts.{untrue, both_true, and_true}
+use Rattle.dy_lowered_forms.specs.drafts.Kinds as kinds
+use Rattle.dy_lowered_forms.specs.drafts.Kinds.{is_usual, takes_plainly}
+use Rattle.dy_lowered_forms.specs.drafts.Plain.{is_plain, are_plain, is_maybe_plain, is_choice_plain}
+use Rattle.dy_lowered_forms.specs.drafts.Plain.{are_arms_plain, are_items_plain, is_item_plain}
+use Rattle.dy_lowered_forms.specs.drafts.Plain.{are_methods_plain, is_lambda_plain, are_clauses_plain}
+use Rattle.dy_lowered_forms.specs.drafts.Plain.{is_clause_plain, is_limit_plain, is_test_plain}
+use Rattle.dy_lowered_forms.specs.drafts.Plain.{is_variable_plain, is_top_plain, is_form_plain}
 use Rattle.dy_lowered_forms.specs.Forms.{any_literal}
 use Rattle.dy_word_numbers.specs.Drafts.{unless, wide, terms_wide, maybe_wide, choice_wide, arms_wide, items_wide, item_wide, methods_wide, lambda_wide, defaults_wide, clauses_wide, clause_wide, limit_wide, test_wide, variable_wide, top_wide, draft_wide}
 

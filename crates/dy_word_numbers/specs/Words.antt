@@ -9,8 +9,8 @@ use Rattle.dy_fragment.specs.Groups.{Grouped}
 use Rattle.dy_rules.specs.Forms.{FormTree, IsForm}
 use Rattle.dy_term.specs.Rows.{CoreDraft}
 use Rattle.dy_surface.specs.Forms.{draft_of}
-use Rattle.dy_lowered_drafts.specs.Kinds.{form_with}
-use Rattle.dy_lowered_drafts.specs.Plain.{is_form_plain}
+use Rattle.dy_lowered_forms.specs.drafts.Kinds.{form_with}
+use Rattle.dy_lowered_forms.specs.drafts.Plain.{is_form_plain}
 use Rattle.dy_lowered_forms.specs.Forms.{any_literal}
 use Rattle.dy_word_numbers.specs.Tokens.{wide_tokens, tokens_of}
 use Rattle.dy_word_numbers.specs.Drafts.{draft_wide}

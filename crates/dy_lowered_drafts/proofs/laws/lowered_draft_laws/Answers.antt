@@ -1,9 +1,0 @@
-use Rattle.dy_lowered_drafts.proofs.Rows.{terms_lowered, lambdas_lowered, forms_lowered}
-use Rattle.dy_lowered_drafts.proofs.laws.lowered_draft_laws.Goals as goal
-
-pub returns : goal.returns
-returns c = record {
-  terms = terms_lowered;
-  lambdas = lambdas_lowered;
-  rows = forms_lowered;
-}

@@ -1,6 +1,0 @@
-//! How much code terms become.
-#![tactic(auto)]
-
-mod laws;
-
-pub use laws::size_laws;
