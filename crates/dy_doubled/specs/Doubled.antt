@@ -1,7 +1,7 @@
 -- Modules that a library defines twice, or defines and imports, and libraries of one name (DRM 4,
 -- "Modules" and "Libraries"; own in which form is told).
-use Rattle.std.specs.Prelude.{◌≡◌, ℕ, Bool, not, ◌&&◌, ◌||◌, cond, is_some, position, slice_get}
-use Rattle.std.specs.Prelude.{List, [], ◌∷◌, ◌++◌, Option, Some, None, Result, Ok, Err}
+use Rattle.std.specs.Prelude.{◌≡◌, ◌≢◌, ℕ, Bool, not, ◌&&◌, ◌||◌, cond, is_some, position}
+use Rattle.std.specs.Prelude.{slice_get, List, [], ◌∷◌, ◌++◌, Option, Some, None, Result, Ok, Err}
 use Rattle.std.specs.List.{list_any}
 use Rattle.std.specs.Str.{bytes_eq}
 use Rattle.dy_base.specs.declared.exports.Exports.{Exports}
@@ -120,6 +120,12 @@ abbrev pub IsAnswer : Name → Result (List Form) Place → List Exports → Res
     → Type 0
 IsAnswer library (Ok forms) used result = IsRead (redefined_in library forms used) result
 IsAnswer library (Err place) used result = IsSyntax place result
+
+-- forms have one answer where memory suffices
+abbrev pub AnswersAreOne : Type 0
+AnswersAreOne = (library : Name) (forms : Result (List Form) Place) (used : List Exports)
+    (a b : Result TakenNames Refusal) → IsAnswer library forms used a
+    → IsAnswer library forms used b → (a ≢ Err Memory) → (b ≢ Err Memory) → a ≡ b
 
 -- what the code adds row by row
 abbrev pub with_new : List Name → Option Name → List Name

@@ -4,5 +4,7 @@
 
 mod doubled;
 mod imported;
+mod laws;
 
 pub use doubled::{TakenNames, redefined};
+pub use laws::doubled_laws;

@@ -5,6 +5,7 @@ pub mod Brought
 pub mod Clauses
 pub mod Lacks
 pub mod Lent
+pub mod OneAnswer
 pub mod Promised
 pub mod Rising
 pub mod Sources

@@ -38,12 +38,12 @@ module _ {V : Type 0} where
   later x y v w rest lt true is h = absurd (less_not_equal (slice_cmp nat_cmp x y) lt (sym (texts_ties x y) ∙ ap (bytes_eq x) (same_names y x (texts_ties y x ∙ is)) ∙ itself x))
   later x y v w rest lt false is h = h
 
-  find_sorted : (es : NamedList V) → T (is_sorted (slice_cmp nat_cmp) es) → (r : Name × V) → IsIn r es → find (slice_cmp nat_cmp) r.0 es ≡ Some r.1
+  pub find_sorted : (es : NamedList V) → T (is_sorted (slice_cmp nat_cmp) es) → (r : Name × V) → IsIn r es → find (slice_cmp nat_cmp) r.0 es ≡ Some r.1
   find_sorted [] s r is = absurd is
   find_sorted (e ∷ es) s r (inl same) = subst (λ (x : Name × V). find (slice_cmp nat_cmp) x.0 (e ∷ es) ≡ Some x.1) (sym same) (ap (λ b. cond b (Some e.1) (find (slice_cmp nat_cmp) e.0 es)) (sym (texts_ties e.0 e.0) ∙ itself e.0))
   find_sorted (e ∷ es) s r (inr is) = later e.0 r.0 e.1 r.1 _ (below_at e.0 es r (first_true _ _ s) is) (is_eq (slice_cmp nat_cmp r.0 e.0)) refl (find_sorted es (second_true _ _ s) r is)
 
-  found_in : (a : Name) (v : V) (es : NamedList V) → find (slice_cmp nat_cmp) a es ≡ Some v → IsIn (a, v) es
+  pub found_in : (a : Name) (v : V) (es : NamedList V) → find (slice_cmp nat_cmp) a es ≡ Some v → IsIn (a, v) es
   found_in a v [] h = absurd (none_is v h)
   found_in a v (e ∷ es) h = by_case (is_eq (slice_cmp nat_cmp a e.0)) refl h (found_in a v es)
     where

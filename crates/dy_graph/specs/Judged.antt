@@ -1,6 +1,7 @@
 -- What the forms of a library come to: the table of its modules, or the first of all faults.
-use Rattle.std.specs.Prelude.{◌≡◌, ◌⊎◌, ℕ, ◌+◌, false, List, [], ◌∷◌, ◌++◌, map, length, drop}
-use Rattle.std.specs.Prelude.{replicate, slice_get, true, Option, Some, None, Result, Ok, Err, T}
+use Rattle.std.specs.Prelude.{◌≡◌, ◌≢◌, ◌⊎◌, ℕ, ◌+◌, false, List, [], ◌∷◌, ◌++◌, map, length}
+use Rattle.std.specs.Prelude.{drop, replicate, slice_get, true, Option, Some, None, T}
+use Rattle.std.specs.Prelude.{Result, Ok, Err}
 use Rattle.std.specs.FinMap as finite
 use Rattle.dy_base.specs.Folding.{folded}
 use Rattle.dy_base.specs.Tables.{NamedList, by_bytes, table_of}
@@ -198,6 +199,13 @@ abbrev pub IsAnswer : Name → List Name → Result (List Form) Place → List E
 IsAnswer library headers (Ok forms) used result =
     IsJudged (given library headers forms used) result
 IsAnswer library headers (Err place) used result = IsSyntax place result
+
+-- forms have one answer, a table or a fault, where memory suffices
+abbrev pub AnswersAreOne : Type 0
+AnswersAreOne = (library : Name) (headers : List Name) (forms : Result (List Form) Place)
+    (used : List Exports) (a b : Result Graph Refusal) → IsAnswer library headers forms used a
+    → IsAnswer library headers forms used b → (a ≢ Err refusals.Memory)
+    → (b ≢ Err refusals.Memory) → a ≡ b
 
 -- the modules of a library before their tables are made
 pub record IsBegun (g : Given) (form : Form) (b : Begun) (list : List Found) : Type 0 where

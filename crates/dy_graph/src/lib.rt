@@ -4,7 +4,9 @@
 
 mod clash;
 mod judging;
+mod laws;
 mod promises;
 mod table;
 
+pub use laws::graph_laws;
 pub use table::graph;

@@ -308,11 +308,12 @@ fn judge(
 /// libraries export that were compiled before it, in load order.
 ///
 /// A refusal is the first fault: `Syntax` at the first form that is none of a library or a module;
-/// else the earliest by file, byte and number of the kind of these. `UnknownLibrary`: the form of
-/// the library is missing, doubled or named otherwise, or a used library is not given.
-/// `UnknownModule`: a used, exported or header module does not exist. `NameClash`: a name has two
-/// owners by imports. `NotExported`: a use clause names what is not exported to it. `Cycle`:
-/// modules use each other in a ring. Or it says that memory did not suffice.
+/// else the earliest by file, byte and number of the kind, then by the name (own), of these.
+/// `UnknownLibrary`: the form of the library is missing, doubled or named otherwise, or a used
+/// library is not given. `UnknownModule`: a used, exported or header module does not exist.
+/// `NameClash`: a name has two owners by imports. `NotExported`: a use clause names what is not
+/// exported to it. `Cycle`: modules use each other in a ring. Or it says that memory did not
+/// suffice. These determine the answer (`graph_laws`).
 pub fn graph(
     alloc: Global,
     library: &Name,

@@ -1,11 +1,15 @@
 -- The fault that is told before all others.
-use Rattle.std.proofs.Common.{◌≡◌, ◌⊎◌, inl, inr, ℕ, zero, suc, ◌<◌, Bool, true, false, true≢false, not, if◌then◌else◌, nat_eq, nat_lt, List, [], ◌∷◌, ◌++◌, Option, Some, None, refl, sym, ap, subst, ◌∙◌, arith}
-use Rattle.std.proofs.lemmas.Bool.{lt-ltb, ltb-true}
+use Rattle.std.proofs.Common.{◌≡◌, ◌⊎◌, inl, inr, ℕ, zero, suc, ◌<◌, Bool, true, false, true≢false, if◌then◌else◌, List, [], ◌∷◌, ◌++◌, Option, Some, None, Ordering, Less, Equal, Greater, refl, sym, ap, subst, ◌∙◌, arith}
+use Rattle.std.specs.Cmp.{IsTotalOrder}
+use Rattle.std.specs.FinMap.{nat_cmp-IsAntisymmetric, slice_cmp-IsAntisymmetric}
+use Rattle.std.specs.Ordering.{is_lt, is_gt, ordering_then, ordering_reverse}
+use Rattle.std.proofs.lemmas.Cmp.{nat_cmp_total, nat_list_cmp_total, on_total, then_total, tied_itself, upto}
 use Rattle.dy_base.specs.Kinds.{code_of}
+use Rattle.dy_base.specs.declared.fault.Place.{Place}
 use Rattle.dy_modules.specs.Clauses.{IsIn}
-use Rattle.dy_modules.proofs.Says.{is_eq, eq_is}
 use Rattle.dy_library_form.specs.declared.found.Found.{Found}
-use Rattle.dy_library_form.specs.Told.{is_before, better, first_with, first, IsTold}
+use Rattle.dy_library_form.specs.Told.{place_cmp, found_cmp, is_before, better, first_with, first, IsTold}
+use Rattle.dy_library_form.proofs.KindNumbers.{same_kind}
 
 pub in_order : (i j : ℕ) → (i < j) ⊎ ((i ≡ j) ⊎ (j < i))
 in_order zero zero = inr (inl refl)
@@ -13,115 +17,43 @@ in_order zero (suc j) = inl (omega arith)
 in_order (suc i) zero = inr (inr (omega arith))
 in_order (suc i) (suc j) = elim (in_order i j) [ inl a ↦ inl (omega (arith, a)) | inr (inl e) ↦ inr (inl (ap suc e)) | inr (inr b) ↦ inr (inr (omega (arith, b))) ]
 
--- the order by file, offset and kind
-abbrev Sooner : Found → Found → Type 0
-Sooner a b = (a.place.file < b.place.file) ⊎ ((a.place.file ≡ b.place.file) × ((a.place.offset < b.place.offset) ⊎ ((a.place.offset ≡ b.place.offset) × (code_of a.kind < code_of b.kind))))
+place_total : IsTotalOrder place_cmp
+place_total = then_total (on_total (λ (p : Place). p.file) nat_cmp_total) (on_total (λ (p : Place). p.offset) nat_cmp_total)
 
-lt_is : (j k : ℕ) → nat_lt j k ≡ true → j < k
-lt_is j k e = ltb-true j k e
+found_total : IsTotalOrder found_cmp
+found_total = then_total (then_total (on_total (λ (f : Found). f.place) place_total) (on_total (λ (f : Found). code_of f.kind) nat_cmp_total)) (on_total (λ (f : Found). f.name) nat_list_cmp_total)
 
-is_lt_of : (j k : ℕ) → j < k → nat_lt j k ≡ true
-is_lt_of j k h = lt-ltb j k h
+-- one is before another where that one is behind it
+reversed : (o : Ordering) → is_lt (ordering_reverse o) ≡ is_gt o
+reversed Less = refl
+reversed Equal = refl
+reversed Greater = refl
 
-not_eq : (j k : ℕ) → nat_eq j k ≡ false → j ≡ k → ⊥
-not_eq j k e same = true≢false (sym (eq_is j k same) ∙ e)
+turned : (a b : Found) → is_before a b ≡ is_gt (found_cmp b a)
+turned a b = ap is_lt (found_total.antisymm a b) ∙ reversed (found_cmp b a)
 
-abbrev by_two : ℕ → ℕ → Bool → Bool
-by_two j k rest = if not (nat_eq j k) then nat_lt j k else rest
-
-two_to : (j k : ℕ) (rest : Bool) → by_two j k rest ≡ true → (j < k) ⊎ ((j ≡ k) × (rest ≡ true))
-two_to j k rest e = by_eq (nat_eq j k) refl e
-  where
-    by_eq : (b : Bool) → nat_eq j k ≡ b → (if not b then nat_lt j k else rest) ≡ true → (j < k) ⊎ ((j ≡ k) × (rest ≡ true))
-    by_eq true is e = inr (is_eq j k is, e)
-    by_eq false is e = inl (lt_is j k e)
-
-two_from : (j k : ℕ) (rest : Bool) → (j < k) ⊎ ((j ≡ k) × (rest ≡ true)) → by_two j k rest ≡ true
-two_from j k rest h = by_eq (nat_eq j k) refl h
-  where
-    by_eq : (b : Bool) → nat_eq j k ≡ b → (j < k) ⊎ ((j ≡ k) × (rest ≡ true)) → (if not b then nat_lt j k else rest) ≡ true
-    by_eq true is (inl h) = let e = is_eq j k is in absurd (omega (arith, h, e))
-    by_eq true is (inr p) = p.1
-    by_eq false is (inl h) = is_lt_of j k h
-    by_eq false is (inr p) = absurd (not_eq j k is p.0)
-
-before_to : (a b : Found) → is_before a b ≡ true → Sooner a b
-before_to a b e = elim (two_to a.place.file b.place.file _ e) [
-  | inl h ↦ inl h
-  | inr p ↦ elim (two_to a.place.offset b.place.offset _ p.1) [
-    | inl h ↦ inr (p.0, inl h)
-    | inr q ↦ inr (p.0, inr (q.0, lt_is (code_of a.kind) (code_of b.kind) q.1))
-  ]
-]
-
-before_from : (a b : Found) → Sooner a b → is_before a b ≡ true
-before_from a b (inl h) = two_from a.place.file b.place.file _ (inl h)
-before_from a b (inr (e, inl h)) = two_from a.place.file b.place.file _ (inr (e, two_from a.place.offset b.place.offset _ (inl h)))
-before_from a b (inr (e, inr (f, h))) = two_from a.place.file b.place.file _ (inr (e, two_from a.place.offset b.place.offset _ (inr (f, is_lt_of (code_of a.kind) (code_of b.kind) h))))
-
-not_true : (b : Bool) → (b ≡ true → ⊥) → b ≡ false
-not_true true never = absurd (never refl)
-not_true false never = refl
-
-apart : (a b : Found) → Sooner a b → Sooner b a → ⊥
-apart a b (inl h) (inl g) = omega (arith, h, g)
-apart a b (inl h) (inr (e, g)) = omega (arith, h, e)
-apart a b (inr (e, h)) (inl g) = omega (arith, e, g)
-apart a b (inr (e, inl h)) (inr (f, inl g)) = omega (arith, h, g)
-apart a b (inr (e, inl h)) (inr (f, inr (o, g))) = omega (arith, h, o)
-apart a b (inr (e, inr (p, h))) (inr (f, inl g)) = omega (arith, p, g)
-apart a b (inr (e, inr (p, h))) (inr (f, inr (o, g))) = omega (arith, h, g)
-
--- what is sooner than one is sooner than another, or that one is no later
-between : (a b c : Found) → Sooner a c → Sooner a b ⊎ Sooner b c
-between a b c s = by_files s (in_order a.place.file b.place.file)
-  where
-    by_kinds : a.place.file ≡ b.place.file → a.place.offset ≡ b.place.offset → Sooner a c
-        → (code_of a.kind < code_of b.kind) ⊎ ((code_of a.kind ≡ code_of b.kind) ⊎ (code_of b.kind < code_of a.kind)) → Sooner a b ⊎ Sooner b c
-    by_kinds f o s (inl h) = inl (inr (f, inr (o, h)))
-    by_kinds f o (inl s) (inr h) = inr (inl (omega (arith, f, s)))
-    by_kinds f o (inr (e, inl s)) (inr h) = inr (inr (sym f ∙ e, inl (omega (arith, o, s))))
-    by_kinds f o (inr (e, inr (p, s))) (inr (inl h)) = inr (inr (sym f ∙ e, inr (sym o ∙ p, omega (arith, h, s))))
-    by_kinds f o (inr (e, inr (p, s))) (inr (inr h)) = inr (inr (sym f ∙ e, inr (sym o ∙ p, omega (arith, h, s))))
-
-    by_offsets : a.place.file ≡ b.place.file → Sooner a c → (a.place.offset < b.place.offset) ⊎ ((a.place.offset ≡ b.place.offset) ⊎ (b.place.offset < a.place.offset)) → Sooner a b ⊎ Sooner b c
-    by_offsets f s (inl h) = inl (inr (f, inl h))
-    by_offsets f s (inr (inl o)) = by_kinds f o s (in_order (code_of a.kind) (code_of b.kind))
-    by_offsets f (inl s) (inr (inr h)) = inr (inl (omega (arith, f, s)))
-    by_offsets f (inr (e, inl s)) (inr (inr h)) = inr (inr (sym f ∙ e, inl (omega (arith, h, s))))
-    by_offsets f (inr (e, inr (p, s))) (inr (inr h)) = inr (inr (sym f ∙ e, inl (omega (arith, h, p))))
-
-    by_files : Sooner a c → (a.place.file < b.place.file) ⊎ ((a.place.file ≡ b.place.file) ⊎ (b.place.file < a.place.file)) → Sooner a b ⊎ Sooner b c
-    by_files s (inl h) = inl (inl h)
-    by_files s (inr (inl f)) = by_offsets f s (in_order a.place.offset b.place.offset)
-    by_files (inl s) (inr (inr h)) = inr (inl (omega (arith, h, s)))
-    by_files (inr (e, s)) (inr (inr h)) = inr (inl (omega (arith, h, e)))
+less : (o : Ordering) → is_lt o ≡ true → is_gt o ≡ false
+less Less e = refl
+less Equal e = absurd (true≢false (sym e))
+less Greater e = absurd (true≢false (sym e))
 
 not_itself : (a : Found) → is_before a a ≡ false
-not_itself a = not_true (is_before a a) (λ e. let s = before_to a a e in apart a a s s)
+not_itself a = ap is_lt (tied_itself found_total a)
+
+not_both : (a b : Found) → is_before a b ≡ true → is_before b a ≡ false
+not_both a b e = turned b a ∙ less (found_cmp a b) e
+
+-- what is not before one that is not before another is not before that one
+not_before : (a b c : Found) → is_before a b ≡ false → is_before b c ≡ false → is_before a c ≡ false
+not_before a b c e f = turned a c ∙ upto found_total c b a (sym (turned b c) ∙ f) (sym (turned a b) ∙ e)
 
 best_more : (one : Found) (rest : List Found) (best : Option Found) → IsTold rest best → IsTold (one ∷ rest) (Some (better one best))
 best_more one rest None none = (inl refl, λ other is. elim is [ inl e ↦ subst (λ f. is_before f one ≡ false) (sym e) (not_itself one) | inr is ↦ absurd (subst (IsIn other) none is) ])
 best_more one rest (Some best) is = by_test (is_before best one) refl
   where
     by_test : (b : Bool) → is_before best one ≡ b → IsTold (one ∷ rest) (Some (if b then best else one))
-    by_test true e = (
-      inr is.0,
-      λ other h. elim h [
-        | inl same ↦ subst (λ f. is_before f best ≡ false) (sym same) (not_true (is_before one best) (λ s. apart best one (before_to best one e) (before_to one best s)))
-        | inr h ↦ is.1 other h
-      ],
-    )
-    by_test false e = (
-      inl refl,
-      λ other h. elim h [
-        | inl same ↦ subst (λ f. is_before f one ≡ false) (sym same) (not_itself one)
-        | inr h ↦ not_true (is_before other one) (λ s. elim (between other best one (before_to other one s)) [
-          | inl x ↦ true≢false (sym (before_from other best x) ∙ is.1 other h)
-          | inr y ↦ true≢false (sym (before_from best one y) ∙ e)
-        ])
-      ],
-    )
+    by_test true e = (inr is.0, λ other h. elim h [ inl same ↦ subst (λ f. is_before f best ≡ false) (sym same) (not_both best one e) | inr h ↦ is.1 other h ])
+    by_test false e = (inl refl, λ other h. elim h [ inl same ↦ subst (λ f. is_before f one ≡ false) (sym same) (not_itself one) | inr h ↦ not_before other best one (is.1 other h) e ])
 
 -- what is told of these is told before all others
 pub best_of : (list : List Found) → IsTold list (first list)
@@ -133,6 +65,35 @@ first_some list fault e = subst (IsTold list) (sym e) (best_of list)
 
 pub first_none : (list : List Found) → None ≡ first list → list ≡ []
 first_none list e = subst (IsTold list) (sym e) (best_of list)
+
+-- faults of which none is before the other are the same
+tied : (o : Ordering) → is_lt o ≡ false → is_gt o ≡ false → o ≡ Equal
+tied Less e f = absurd (true≢false e)
+tied Equal e f = refl
+tied Greater e f = absurd (true≢false f)
+
+both_equal : (a b : Ordering) → ordering_then a b ≡ Equal → (a ≡ Equal) × (b ≡ Equal)
+both_equal Less b e = absurd (true≢false (ap is_lt e))
+both_equal Equal b e = (refl, e)
+both_equal Greater b e = absurd (true≢false (ap is_gt e))
+
+pub same_found : (a b : Found) → is_before a b ≡ false → is_before b a ≡ false → a ≡ b
+same_found a b e f =
+    let all = both_equal _ _ (tied (found_cmp a b) e (sym (turned b a) ∙ f)) in
+    let front = both_equal _ _ all.0 in
+    let place = both_equal _ _ front.0 in
+    let file = nat_cmp-IsAntisymmetric _ _ place.0 in
+    let offset = nat_cmp-IsAntisymmetric _ _ place.1 in
+    let kind = same_kind a.kind b.kind (nat_cmp-IsAntisymmetric _ _ front.1) in
+    let name = slice_cmp-IsAntisymmetric nat_cmp-IsAntisymmetric a.name b.name all.1 in
+    λ i. record { kind = kind i; place = record { file = file i; offset = offset i }; name = name i }
+
+-- so one is told at most
+pub one_told : (list : List Found) (a b : Option Found) → IsTold list a → IsTold list b → a ≡ b
+one_told list None None s t = refl
+one_told list None (Some g) s t = absurd (subst (IsIn g) s t.0)
+one_told list (Some f) None s t = absurd (subst (IsIn f) t s.0)
+one_told list (Some f) (Some g) s t = ap Some (same_found f g (t.1 f s.0) (s.1 g t.0))
 
 -- the last of some faults, where what is first behind it is known
 pub first_last : (list : List Found) (one : Found) (best : Option Found) → first_with (list ++ one ∷ []) best ≡ first_with list (Some (better one best))

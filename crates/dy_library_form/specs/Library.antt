@@ -1,6 +1,6 @@
 -- What the form of a library imports and exports.
-use Rattle.std.specs.Prelude.{◌≡◌, ℕ, zero, suc, ◌+◌, Bool, true, false, if◌then◌else◌, List, []}
-use Rattle.std.specs.Prelude.{◌∷◌, ◌++◌, map, position, slice_get, is_some, Option, Some, None}
+use Rattle.std.specs.Prelude.{ℕ, Bool, true, false, if◌then◌else◌, List, []}
+use Rattle.std.specs.Prelude.{◌∷◌, ◌++◌, position, slice_get, is_some, Option, Some, None}
 use Rattle.std.specs.FinMap as finite
 use Rattle.std.specs.Str.{bytes_eq}
 use Rattle.indexmap.specs.IndexMap.{insert_entry}
@@ -16,11 +16,10 @@ use Rattle.dy_module_forms.specs.declared.written.UseOption.{UseOption}
 use Rattle.dy_module_forms.specs.declared.written.Clause.{Clause}
 use Rattle.dy_module_forms.specs.declared.written.Clause.TheVariants as clauses
 use Rattle.dy_module_forms.specs.declared.written.Placed.{Placed}
-use Rattle.dy_module_forms.specs.declared.written.Form.{Form}
 use Rattle.dy_library_form.specs.declared.found.Found.{Found}
 use Rattle.dy_library_form.specs.declared.library.Reading.{Reading}
 use Rattle.dy_module_numbers.specs.Options.{with_names, use_clause}
-use Rattle.dy_module_numbers.specs.Numbers.{library_name, is_other, number_of, brought_modules}
+use Rattle.dy_module_numbers.specs.Numbers.{is_other, number_of, brought_modules}
 use Rattle.dy_module_numbers.specs.Numbers.{with_modules}
 use Rattle.dy_library_form.specs.Told.{found, told_at, not_exported}
 

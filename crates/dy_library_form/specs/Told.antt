@@ -1,11 +1,13 @@
 -- The faults of a library's forms, and which is told (DRM 4, "Modules" and "Libraries"; own in the
 -- order of faults).
-use Rattle.std.specs.Prelude.{◌≡◌, ℕ, ◌+◌, ◌%◌, Bool, true, false, not, ◌||◌}
-use Rattle.std.specs.Prelude.{if◌then◌else◌, nat_eq, nat_lt, is_some, List, [], ◌∷◌, ◌++◌}
+use Rattle.std.specs.Prelude.{◌≡◌, ℕ, ◌+◌, ◌%◌, Bool, true, false, ◌||◌}
+use Rattle.std.specs.Prelude.{if◌then◌else◌, is_some, List, [], ◌∷◌, ◌++◌}
 use Rattle.std.specs.Prelude.{Option, Some, None}
+use Rattle.std.specs.Ordering.{is_lt, nat_cmp, ordering_then}
 use Rattle.std.specs.Str.{bytes_eq}
+use Rattle.std.specs.declared.cmp.Ordering.{Ordering}
 use Rattle.dy_base.specs.Kinds.{code_of}
-use Rattle.dy_base.specs.Tables.{names}
+use Rattle.dy_base.specs.Tables.{by_bytes}
 use Rattle.dy_base.specs.declared.kind.Kind.{Kind}
 use Rattle.dy_base.specs.declared.kind.Kind.TheVariants.{UnknownLibrary, UnknownModule}
 use Rattle.dy_base.specs.declared.kind.Kind.TheVariants.{NotExported}
@@ -25,12 +27,18 @@ use Rattle.dy_module_numbers.specs.Options.{with_name}
 abbrev pub found : Kind → Place → Name → Found
 found kind place name = record { kind = kind; place = place; name = name }
 
--- by the file, then by the byte, then by the number of the kind
+-- by the file, then by the byte
+abbrev pub place_cmp : Place → Place → Ordering
+place_cmp a b = ordering_then (nat_cmp a.file b.file) (nat_cmp a.offset b.offset)
+
+-- by the place, then by the number of the kind, then by the bytes of the name
+abbrev pub found_cmp : Found → Found → Ordering
+found_cmp a b =
+    ordering_then (ordering_then (place_cmp a.place b.place)
+    (nat_cmp (code_of a.kind) (code_of b.kind))) (by_bytes a.name b.name)
+
 abbrev pub is_before : Found → Found → Bool
-is_before a b =
-    if not (nat_eq a.place.file b.place.file) then nat_lt a.place.file b.place.file
-    else if not (nat_eq a.place.offset b.place.offset) then nat_lt a.place.offset b.place.offset
-    else nat_lt (code_of a.kind) (code_of b.kind)
+is_before a b = is_lt (found_cmp a b)
 
 abbrev pub better : Found → Option Found → Found
 better first None = first

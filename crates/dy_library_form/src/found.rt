@@ -6,6 +6,7 @@ ghost use Rattle.dy_library_form.specs.Told.{found};
 
 use dy_base::{Items, Kind, Place, Text};
 use std::alloc::{AllocError, Global};
+use std::cmp::Ordering;
 
 /// A fault with its place and the name that is shown.
 #[derive(Debug, Drop)]
@@ -30,17 +31,27 @@ pub fn tell(
     Ok(())
 }
 
-/// Whether a fault is told before another: by the file, then by the byte, then by the kind.
+fn compare_places(a: Place, b: Place) -> Ordering
+    ensures { result ≡ spec.place_cmp a b }
+{
+    a.file.cmp(&b.file).then(a.offset.cmp(&b.offset))
+}
+
+/// The order in which faults are told: by the file, then by the byte, then by the number of the
+/// kind, then by the bytes of the name (own).
+fn compare(a: &Found, b: &Found) -> Ordering
+    ensures { result ≡ spec.found_cmp a.now b.now }
+{
+    compare_places(a.place, b.place)
+        .then(a.kind.code().cmp(&b.kind.code()))
+        .then(a.name.bytes().cmp(b.name.bytes()))
+}
+
+/// Whether a fault is told before another.
 fn is_before(a: &Found, b: &Found) -> bool
     ensures { result ≡ spec.is_before a.now b.now }
 {
-    if a.place.file != b.place.file {
-        a.place.file < b.place.file
-    } else if a.place.offset != b.place.offset {
-        a.place.offset < b.place.offset
-    } else {
-        a.kind.code() < b.kind.code()
-    }
+    compare(a, b).is_lt()
 }
 
 fn better(first: Found, other: Option<Found>) -> Found
@@ -58,7 +69,7 @@ fn better(first: Found, other: Option<Found>) -> Found
     }
 }
 
-/// The fault that is told of these: of those that are told before all others the first.
+/// The fault that is told of these: the one that no other is told before.
 pub fn first(list: Items<Found>) -> Option<Found>
     ensures { result ≡ spec.first list }
 {

@@ -8,7 +8,7 @@ mod library;
 mod missing;
 
 pub use found::{Found, first, tell};
-pub use laws::first_is_told;
+pub use laws::{first_is_told, one_is_told};
 pub use library::{
     Reading, Used, least_name, read_uses, shown_modules, tell_forms, tell_missing,
     tell_unknown_exports,
