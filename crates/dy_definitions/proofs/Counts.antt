@@ -14,7 +14,7 @@ use Rattle.dy_definitions.specs.declared.definitions.Role.{Role}
 use Rattle.dy_definitions.specs.declared.definitions.Role.TheVariants.{Makes, Adds}
 use Rattle.dy_definitions.specs.declared.definitions.Definition.{Definition}
 use Rattle.dy_definitions.specs.declared.tally.Tally.{Tally}
-use Rattle.dy_definitions.specs.Names.{is_generic, is_of, is_placed, what_made, what_is, is_method}
+use Rattle.dy_definitions.specs.Names.{is_generic, is_of, what_made, what_is, is_method}
 use Rattle.dy_definitions.specs.Names.{makes_generic, makes_other, has_form}
 use Rattle.dy_definitions.specs.Redefined.{go_together, clashes, is_misplaced, is_word}
 use Rattle.dy_definitions.specs.Redefined.{is_redefined, redefined, redefined_among}
@@ -35,6 +35,7 @@ both_same false o g = refl
 
 by_fields : (b : Bool) (t u : Tally) → record {
   what = cond b t.what u.what;
+  first = cond b t.first u.first;
   form = cond b t.form u.form;
   adds = cond b t.adds u.adds;
   generic = cond b t.generic u.generic;
@@ -44,8 +45,8 @@ by_fields true t u = refl
 by_fields false t u = refl
 
 module _ (c : ℕ) (a : List ℕ) (d : Definition) where
-  abbrev what_with : Bool → Option What → Option What
-  what_with b w = cond b (or_what w d.is_open (what_made d.role)) w
+  abbrev what_with : Bool → Bool → Option What → Option What
+  what_with b counts w = cond b (or_what w counts (what_made d.role)) w
 
   what_first : (b stands : Bool) → option_map (λ (x : Definition). what_made x.role)
       (cond (b && stands) (Some d) None) ≡ cond b (or_what None stands (what_made d.role)) None
@@ -57,17 +58,24 @@ module _ (c : ℕ) (a : List ℕ) (d : Definition) where
   kept true w = refl
   kept false w = refl
 
-  -- what a name is with one more definition
-  what_more : (ds : List Definition)
-      → what_is (ds ++ d ∷ []) c a ≡ what_with (is_of c a d) (what_is ds c a)
-  what_more [] = what_first (is_of c a d) d.is_open
-  what_more (e ∷ ds) = by_head (is_placed c a e) (what_more ds)
+  -- what the first of the definitions that count makes the name
+  abbrev made_by : (Definition → Bool) → List Definition → Option What
+  made_by counts ds =
+      option_map (λ x. what_made x.role) (find (λ x. is_of c a x && counts x) ds)
+
+  -- the same with one more definition
+  made_more : (counts : Definition → Bool) (ds : List Definition)
+      → made_by counts (ds ++ d ∷ []) ≡ what_with (is_of c a d) (counts d) (made_by counts ds)
+  made_more counts [] = what_first (is_of c a d) (counts d)
+  made_more counts (e ∷ ds) = by_head (is_of c a e && counts e) (made_more counts ds)
     where
-      by_head : (b : Bool) → what_is (ds ++ d ∷ []) c a ≡ what_with (is_of c a d) (what_is ds c a)
+      by_head : (b : Bool)
+          → made_by counts (ds ++ d ∷ []) ≡ what_with (is_of c a d) (counts d) (made_by counts ds)
           → option_map (λ (x : Definition). what_made x.role)
-          (cond b (Some e) (find (is_placed c a) (ds ++ d ∷ [])))
-          ≡ what_with (is_of c a d) (option_map (λ (x : Definition). what_made x.role)
-          (cond b (Some e) (find (is_placed c a) ds)))
+          (cond b (Some e) (find (λ x. is_of c a x && counts x) (ds ++ d ∷ [])))
+          ≡ what_with (is_of c a d) (counts d)
+          (option_map (λ (x : Definition). what_made x.role)
+          (cond b (Some e) (find (λ x. is_of c a x && counts x) ds)))
       by_head true rest = kept (is_of c a d) (Some (what_made e.role))
       by_head false rest = rest
 
@@ -94,7 +102,8 @@ module _ (c : ℕ) (a : List ℕ) (d : Definition) where
       ≡ with_definition d (tally_of ds) c a
   tally_more ds =
       (λ i. record {
-        what = what_more ds i;
+        what = made_more (λ e. e.is_open) ds i;
+        first = made_more (λ e. e.is_open || is_method e.role) ds i;
         form = form_more ds i;
         adds = any_more (λ e. is_method e.role) ds i;
         generic = any_more (λ e. makes_generic e.role) ds i;

@@ -14,7 +14,7 @@ use Rattle.dy_definitions.specs.declared.definitions.Role.{Role}
 use Rattle.dy_definitions.specs.declared.definitions.Role.TheVariants.{Makes, Adds}
 use Rattle.dy_definitions.specs.declared.definitions.Definition.{Definition}
 use Rattle.dy_definitions.specs.declared.meanings.RowCounts.{RowCounts}
-use Rattle.dy_definitions.specs.Names.{is_owned, is_of, what_is, is_function, has_form, may_give}
+use Rattle.dy_definitions.specs.Names.{is_owned, is_of, is_generic_name, has_form, may_give}
 use Rattle.dy_definitions.specs.Names.{gives, what_made}
 use Rattle.dy_definitions.specs.Means.{is_first, has_row, with_rows, Meanings, no_rows, row_id}
 use Rattle.dy_definitions.specs.Means.{first_row, meanings_of}
@@ -90,7 +90,7 @@ module _ (library : ℕ) (ds : List Definition) where
   module _ (before : List Definition) (m : Meanings) (knows : Knows before m)
       (d : Definition) where
     abbrev given_by : ℕ → List ℕ → Bool
-    given_by c a = may_give d.role d.is_open (is_function (what_is ds c a)) (has_form ds c a)
+    given_by c a = may_give d.role d.is_open (is_generic_name ds c a) (has_form ds c a)
 
     abbrev new_at : Option Owner → Bool
     new_at k = gives_in d (tally_at (tally_of ds) k) && is_unknown (meaning_at m k)

@@ -1,6 +1,7 @@
 -- What the names that the modules of a library own are, by its definitions.
-use Rattle.std.specs.Prelude.{ℕ, Bool, true, false, not, ◌&&◌, cond, List, Option, Some, None}
-use Rattle.std.specs.Prelude.{find, option_map}
+use Rattle.std.specs.Prelude.{ℕ, Bool, true, false, not, ◌&&◌, ◌||◌, cond, List, Option}
+use Rattle.std.specs.Prelude.{Some, None}
+use Rattle.std.specs.Prelude.{find, option_map, is_some}
 use Rattle.std.specs.List.{list_any}
 use Rattle.dy_base.specs.declared.ids.What.{What}
 use Rattle.dy_base.specs.declared.ids.What.TheVariants as whats
@@ -44,6 +45,24 @@ abbrev pub is_function : Option What → Bool
 is_function None = false
 is_function (Some what) = is_generic what
 
+abbrev pub is_method : Role → Bool
+is_method Adds = true
+is_method (Makes what) = false
+
+-- it is one, and stands where one may or is a method, which may stand elsewhere too
+abbrev pub is_leading : ℕ → List ℕ → Definition → Bool
+is_leading c a d = is_of c a d && (d.is_open || is_method d.role)
+
+-- what the first of those makes the name
+abbrev pub first_made : List Definition → ℕ → List ℕ → Option What
+first_made ds c a = option_map (λ d. what_made d.role) (find (is_leading c a) ds)
+
+-- The name means a generic function: one of the definitions that stand where one may makes it
+-- something, and what comes first makes it that. Of a method and a definition of another thing the
+-- later is one too many, wherever the method stands.
+abbrev pub is_generic_name : List Definition → ℕ → List ℕ → Bool
+is_generic_name ds c a = is_some (what_is ds c a) && is_function (first_made ds c a)
+
 abbrev pub makes_generic : Role → Bool
 makes_generic Adds = false
 makes_generic (Makes what) = is_generic what
@@ -51,10 +70,6 @@ makes_generic (Makes what) = is_generic what
 abbrev pub makes_other : Role → Bool
 makes_other Adds = false
 makes_other (Makes what) = not (is_generic what)
-
-abbrev pub is_method : Role → Bool
-is_method Adds = true
-is_method (Makes what) = false
 
 -- it is one that makes its name a generic function, and stands where it may
 abbrev pub is_form : ℕ → List ℕ → Definition → Bool
@@ -73,4 +88,4 @@ may_give (Makes what) is_open function form =
 
 abbrev pub gives : List Definition → ℕ → List ℕ → Definition → Bool
 gives ds c a d =
-    is_of c a d && may_give d.role d.is_open (is_function (what_is ds c a)) (has_form ds c a)
+    is_of c a d && may_give d.role d.is_open (is_generic_name ds c a) (has_form ds c a)

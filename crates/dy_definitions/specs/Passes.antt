@@ -1,7 +1,7 @@
 -- What a pass over definitions keeps of those that it has seen: a tally for each name, and what
 -- names mean so far.
 use Rattle.std.specs.Prelude.{ℕ, Bool, true, false, not, ◌&&◌, ◌||◌, cond, List, [], ◌∷◌, ◌++◌}
-use Rattle.std.specs.Prelude.{nat_eq, Option, Some, None}
+use Rattle.std.specs.Prelude.{nat_eq, Option, Some, None, is_some}
 use Rattle.std.specs.Str.{bytes_eq}
 use Rattle.std.specs.List.{list_any}
 use Rattle.dy_base.specs.Folding.{folded}
@@ -17,18 +17,26 @@ use Rattle.dy_definitions.specs.declared.definitions.Role.TheVariants.{Makes, Ad
 use Rattle.dy_definitions.specs.declared.definitions.Definition.{Definition}
 use Rattle.dy_definitions.specs.declared.tally.Tally.{Tally}
 use Rattle.dy_definitions.specs.Names.{is_generic, is_owned, is_of, what_made, what_is}
-use Rattle.dy_definitions.specs.Names.{is_function, has_form, is_method, makes_generic}
-use Rattle.dy_definitions.specs.Names.{makes_other, may_give}
+use Rattle.dy_definitions.specs.Names.{first_made, is_function, has_form, is_method}
+use Rattle.dy_definitions.specs.Names.{makes_generic, makes_other, may_give}
 use Rattle.dy_definitions.specs.Means.{Meanings, one_more, row_id}
 use Rattle.dy_definitions.specs.Redefined.{is_misplaced, is_word, redefined}
 
 abbrev pub no_tally : Tally
-no_tally = record { what = None; form = false; adds = false; generic = false; other = false }
+no_tally = record {
+  what = None;
+  first = None;
+  form = false;
+  adds = false;
+  generic = false;
+  other = false;
+}
 
 -- the tally of the definitions of a name
 abbrev pub tally_of : List Definition → ℕ → List ℕ → Tally
 tally_of ds c a = record {
   what = what_is ds c a;
+  first = first_made ds c a;
   form = has_form ds c a;
   adds = list_any (λ d. is_of c a d && is_method d.role) ds;
   generic = list_any (λ d. is_of c a d && makes_generic d.role) ds;
@@ -45,6 +53,7 @@ or_what None false other = None
 abbrev pub counted : Role → Bool → Tally → Tally
 counted role is_open t = record {
   what = or_what t.what is_open (what_made role);
+  first = or_what t.first (is_open || is_method role) (what_made role);
   form = t.form || (is_open && makes_generic role);
   adds = t.adds || is_method role;
   generic = t.generic || makes_generic role;
@@ -100,7 +109,8 @@ with_refused words all earlier (d ∷ ds) list =
 
 -- a definition may give its name its row
 abbrev pub gives_in : Definition → Tally → Bool
-gives_in d all = may_give d.role d.is_open (is_function all.what) all.form
+gives_in d all =
+    may_give d.role d.is_open (is_some all.what && is_function all.first) all.form
 
 abbrev pub is_unknown : Option BindingId → Bool
 is_unknown None = true

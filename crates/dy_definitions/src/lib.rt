@@ -10,8 +10,9 @@ mod owned;
 mod redefined;
 mod tally;
 
+pub use counting::{count, tally_at};
 pub use defined::Defined;
 pub use definitions::{Definition, Role};
 pub use meanings::RowCounts;
 pub use owned::{MeaningTable, TallyTable};
-pub use tally::Tally;
+pub use tally::{Tally, is_generic, is_method};

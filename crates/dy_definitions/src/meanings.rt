@@ -44,7 +44,7 @@ fn may_give(role: Role, is_open: bool, function: bool, form: bool) -> bool
 fn gives_in(definition: &Definition, all: Tally) -> bool
     ensures { result ≡ gives_in definition.now all }
 {
-    let function = is_function(all.what);
+    let function = all.what.is_some() && is_function(all.first);
     may_give(definition.role, definition.is_open, function, all.form)
 }
 

@@ -13,6 +13,8 @@ use dy_base::What;
 pub struct Tally {
     /// What the first makes it of those that stand where one may.
     pub what: Option<What>,
+    /// What the first makes it of those that stand where one may or are methods.
+    pub first: Option<What>,
     /// One of those makes it a generic function, and is no method.
     pub form: bool,
     /// One is a method.
@@ -71,7 +73,8 @@ fn makes_other(role: Role) -> bool
     }
 }
 
-fn is_method(role: Role) -> bool
+/// Whether a definition is a method.
+pub fn is_method(role: Role) -> bool
     ensures { result ≡ is_method role }
 {
     match role {
@@ -80,13 +83,13 @@ fn is_method(role: Role) -> bool
     }
 }
 
-/// What a name is with one more definition, which makes it this.
-fn or_what(earlier: Option<What>, is_open: bool, made: What) -> Option<What>
-    ensures { result ≡ or_what earlier is_open made }
+/// What a name is with one more definition, which makes it this where it counts.
+fn or_what(earlier: Option<What>, counts: bool, made: What) -> Option<What>
+    ensures { result ≡ or_what earlier counts made }
 {
     match earlier {
         Some(what) => Some(what),
-        None => { if is_open { Some(made) } else { None } }
+        None => { if counts { Some(made) } else { None } }
     }
 }
 
@@ -97,6 +100,7 @@ impl Tally {
     {
         Tally {
             what: None,
+            first: None,
             form: false,
             adds: false,
             generic: false,
@@ -109,8 +113,10 @@ impl Tally {
         ensures { result ≡ counted definition.now.role definition.now.is_open self }
     {
         let role = definition.role;
+        let made = what_made(role);
         Tally {
-            what: or_what(self.what, definition.is_open, what_made(role)),
+            what: or_what(self.what, definition.is_open, made),
+            first: or_what(self.first, definition.is_open || is_method(role), made),
             form: self.form || (definition.is_open && makes_generic(role)),
             adds: self.adds || is_method(role),
             generic: self.generic || makes_generic(role),
