@@ -6,12 +6,12 @@ use Rattle.std.proofs.lemmas.List.{append_assoc, append-nil}
 use Rattle.dy_base.specs.declared.fault.Fault.{Fault}
 use Rattle.dy_term.specs.declared.rows.Row.{Row}
 use Rattle.dy_names.specs.Outside.{Outside}
-use Rattle.dy_binding.specs.Reads.{told_some}
 use Rattle.dy_widths.specs.Rows.{is_wide}
 use Rattle.dy_library_rows.specs.Libraries.{Form, limit_of, read_form, rows_of}
 use Rattle.dy_library_names.specs.declared.reading.Read.{Read}
-use Rattle.dy_library_names.specs.Named.{or_more, limit_by, form_faults, limits}
+use Rattle.dy_library_names.specs.Named.{limit_by, form_faults, limits}
 use Rattle.dy_library_names.specs.Passes.{told_all, with_read, with_form, with_forms}
+use Rattle.dy_library_names.specs.Told.{or_more}
 use Rattle.dy_library_names.proofs.Tells.{told_some_more}
 
 abbrev is_nil : List Fault → Bool

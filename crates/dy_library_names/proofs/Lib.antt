@@ -1,5 +1,8 @@
+pub mod EarlyForms
 pub mod Firsts
-pub mod Judging
-pub mod Puts
 pub mod FormFaults
+pub mod Judging
+pub mod Once
+pub mod Puts
+pub mod SameAnswers
 pub mod Tells

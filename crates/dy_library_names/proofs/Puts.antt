@@ -7,7 +7,7 @@ use Rattle.std.specs.FinMap as map
 use Rattle.std.specs.FinMap.{get-insert, get-empty}
 use Rattle.std.specs.Cmp.Lexicographic.{nat_list_cmp_total, texts_ties, bytes_decides}
 use Rattle.std.proofs.lemmas.Bool.{eq-eqb}
-use Rattle.dy_base.specs.Tables.{NameMap, by_bytes}
+use Rattle.dy_base.specs.Tables.{by_bytes}
 use Rattle.dy_base.specs.declared.ids.BindingId.{BindingId}
 use Rattle.dy_modules.specs.declared.owner.Owner.{Owner}
 use Rattle.dy_modules.specs.declared.owner.Owner.TheVariants.{Outside, Own}
@@ -17,8 +17,8 @@ use Rattle.dy_module_tables.proofs.Targets.{length-put}
 use Rattle.dy_names.proofs.Kept.{equal_parts}
 use Rattle.dy_definitions.specs.declared.definitions.Definition.{Definition}
 use Rattle.dy_definitions.specs.declared.meanings.RowCounts.{RowCounts}
-use Rattle.dy_definitions.specs.Names.{is_owned, is_of, gives, what_made, may_give, is_function}
-use Rattle.dy_definitions.specs.Names.{what_is, has_form}
+use Rattle.dy_definitions.specs.Names.{is_owned, is_of, what_made, may_give, is_generic_name}
+use Rattle.dy_definitions.specs.Names.{has_form}
 use Rattle.dy_definitions.specs.Means.{Meanings, with_rows, has_row, no_rows, one_more, row_id}
 use Rattle.dy_definitions.specs.Means.{first_row, meanings_of}
 use Rattle.dy_library_names.specs.Closing.{Definitions, put_meaning, put_owned, put_all}
@@ -86,6 +86,11 @@ module _ (M : Meanings) where
   length_owned None defs = refl
   length_owned (Some (Outside id)) defs = refl
   length_owned (Some (Own m n)) defs = length_meaning (M m n) defs m n
+
+  pub length_all : (ds : List Definition) (defs : Definitions)
+      → length (put_all M ds defs) ≡ length defs
+  length_all [] defs = refl
+  length_all (d ∷ ds) defs = length_all ds (put_owned M d.owner defs) ∙ length_owned d.owner defs
 
   owned_at : (o : Option Owner) (defs : Definitions) (c : ℕ) (a : List ℕ) → c < length defs
       → look (put_owned M o defs) c a
@@ -157,7 +162,7 @@ module _ (library : ℕ) (ds : List Definition) (c : ℕ) (a : List ℕ) where
           → first_row library ds c a rows (cond b (d ∷ with_rows ds (before ++ d ∷ []) rest)
           (with_rows ds (before ++ d ∷ []) rest)) ≡ None
       by_row behind absent true =
-          ap (λ x. cond (x && may_give d.role d.is_open (is_function (what_is ds c a))
+          ap (λ x. cond (x && may_give d.role d.is_open (is_generic_name ds c a)
           (has_form ds c a)) (Some (row_id library rows d)) (first_row library ds c a
           (one_more (what_made d.role) rows) (with_rows ds (before ++ d ∷ []) rest))) absent
           ∙ behind (one_more (what_made d.role) rows)

@@ -5,8 +5,8 @@ use Rattle.dy_base.specs.declared.fault.Fault.{Fault}
 use Rattle.dy_binding.specs.declared.progress.Progress.{Progress}
 use Rattle.dy_binding.specs.Faults.{first_of_two}
 use Rattle.dy_binding.specs.Reads.{told, told_some}
-use Rattle.dy_library_names.specs.Named.{or_more}
 use Rattle.dy_library_names.specs.Passes.{told_all, first_behind, first_of}
+use Rattle.dy_library_names.specs.Told.{or_more}
 
 pub told_more : (fs : List Fault) (f : Fault) (p : Progress)
     → told_all (fs ++ f ∷ []) p ≡ told f (told_all fs p)

@@ -13,10 +13,11 @@ use Rattle.dy_definitions.specs.Means.{Meanings}
 abbrev pub Definitions : Type 0
 Definitions = List (NameMap BindingId)
 
--- the names of the modules have these meanings
-abbrev pub AreDefined : List ModuleForm → Definitions → Meanings → Type 0
-AreDefined ms defs meanings = (c : ℕ) (a : List ℕ) → c < length ms
-    → definition defs (Own c a) ≡ meanings c a
+-- the names of the modules have these meanings, and no others have any
+pub record AreDefined (ms : List ModuleForm) (defs : Definitions) (meanings : Meanings)
+    : Type 0 where
+  pub count : length defs ≡ length ms
+  pub each : (c : ℕ) (a : List ℕ) → c < length ms → definition defs (Own c a) ≡ meanings c a
 
 abbrev pub with_definitions : Graph → Definitions → Graph
 with_definitions g defs = record {

@@ -1,5 +1,5 @@
 -- What a pass over forms and faults has so far.
-use Rattle.std.specs.Prelude.{◌≡◌, Bool, List, [], ◌∷◌, ◌++◌, Option, Some, None}
+use Rattle.std.specs.Prelude.{Bool, false, ◌&&◌, List, [], ◌∷◌, ◌++◌, Option, Some, None}
 use Rattle.std.specs.List.{list_any}
 use Rattle.dy_base.specs.declared.fault.Fault.{Fault}
 use Rattle.dy_base.specs.declared.fault.Place.{Place}
@@ -10,6 +10,12 @@ use Rattle.dy_binding.specs.Faults.{first_of_two}
 use Rattle.dy_binding.specs.Reads.{none, told, told_some}
 use Rattle.dy_widths.specs.Rows.{is_wide}
 use Rattle.dy_library_rows.specs.Libraries.{Form, or_fault, limit_of, read_form}
+use Rattle.dy_modules.specs.declared.owner.Owner.{Owner}
+use Rattle.dy_modules.specs.declared.owner.Owner.TheVariants.{Outside as OfOther, Own}
+use Rattle.dy_definitions.specs.declared.definitions.Definition.{Definition}
+use Rattle.dy_definitions.specs.Names.{is_generic, is_method}
+use Rattle.dy_definitions.specs.Passes.{Tallies, with_definition}
+use Rattle.dy_library_names.specs.Early.{stands_for_type, early_if}
 use Rattle.dy_library_names.specs.declared.reading.Read.{Read}
 
 -- faults, each behind those so far
@@ -29,6 +35,27 @@ first_of faults = first_behind None faults
 abbrev pub first_in : List (List Fault) → Option Fault
 first_in [] = None
 first_in (faults ∷ phases) = or_fault (first_of faults) (first_in phases)
+
+-- constants that stand for types, noted one by one
+abbrev pub told_types : List Form → Progress → Progress
+told_types [] p = p
+told_types (form ∷ forms) p =
+    told_types forms (told_some (early_if (stands_for_type form.1) form.0) p)
+
+-- whether what a name means has a method, by the tallies of definitions
+abbrev pub counts_method : Tallies → Option Owner → Bool
+counts_method tallies None = false
+counts_method tallies (Some (OfOther id)) = is_generic id.what
+counts_method tallies (Some (Own c a)) = (tallies c a).adds
+
+abbrev pub adds_to_counted : Tallies → Definition → Bool
+adds_to_counted tallies d = is_method d.role && counts_method tallies d.owner
+
+-- definitions, behind others, that add a method to what has one, noted one by one
+abbrev pub told_again : Tallies → List Definition → Progress → Progress
+told_again tallies [] p = p
+told_again tallies (d ∷ ds) p = told_again (with_definition d tallies) ds
+    (told_some (early_if (adds_to_counted tallies d) d.place) p)
 
 abbrev pub nothing_read : Read
 nothing_read = record { rows = []; names = none; limits = none }

@@ -4,6 +4,10 @@ use Rattle.dy_base.specs.declared.fault.Fault.{Fault}
 use Rattle.dy_modules.specs.Clauses.{IsIn}
 use Rattle.dy_binding.specs.Faults.{comes_before}
 
+abbrev pub or_more : Option Fault → List Fault → List Fault
+or_more None faults = faults
+or_more (Some fault) faults = fault ∷ faults
+
 -- It is one of these, none of them comes before it, and it stands in front of those that are alike:
 -- it comes before each that stands in front of it.
 pub record IsTold (faults : List Fault) (fault : Fault) : Type 0 where

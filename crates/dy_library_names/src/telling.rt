@@ -1,6 +1,6 @@
 //! Which of several faults is told.
 
-ghost use Rattle.std.specs.Prelude.{◌≡◌, [], ◌∷◌, map, IfOk, OnOk};
+ghost use Rattle.std.specs.Prelude.{◌≡◌, map, IfOk, OnOk};
 ghost use Rattle.dy_library_names.specs.Named.{undefined};
 ghost use Rattle.dy_library_names.specs.Passes.{told_all};
 
