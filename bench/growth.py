@@ -4,8 +4,9 @@
 usage: growth.py [COMMAND ..]
 
 Builds libraries of 64 KiB, 256 KiB, 1 MiB and 4 MiB, made in a temporary folder, by
-`COMMAND .. build LID`: of lines that print sums, and of methods and lines that call them. With no
-COMMAND it is the script banthruy beside this folder.
+`COMMAND .. build LID`: of lines that print sums, and of methods and lines that call them, in one
+file of one module each; and of methods and calls of them in 64 files of 100 modules, each of which
+uses another. With no COMMAND it is the script banthruy beside this folder.
 
 The status is 1 where a library is not built or prints something else, where time or memory grows
 by more than 1.3 for each doubling, beyond the doubling itself, or where the largest library takes
@@ -31,13 +32,10 @@ MOST_MEMORY = 1024 * MIB
 # Times below this are taken as this: the clock and the machine's other work blur them.
 SHORTEST = 0.01
 
-LID = "library: growth\nfiles: library\n growth\n"
-LIBRARY = (
-    "module: dylan-user\n\n"
-    "define library growth use dylan; use io; end;\n"
-    "define module growth use dylan; use format-out; end;\n"
-)
+LIBRARY = "module: dylan-user\n\ndefine library growth use dylan; use io; end;\n"
 HEADER = "module: growth\n\n"
+FILES = 63
+MODULES = 100
 
 
 class Failed(Exception):
@@ -63,11 +61,21 @@ def methods():
 
 
 KINDS = {"lines that print sums": sums, "methods and calls of them": methods}
+IN_MODULES = "methods and calls of them in modules"
 
 
-def write_source(folder, size, kind):
-    """Writes a source file of this size, and beside it what the program prints. Lines go out one by
-    one: a child's peak counts from what this process holds when it starts the child."""
+def write_lid(folder, names):
+    with open_text(folder, "growth.lid") as file:
+        file.write("library: growth\nfiles: library\n" + "".join(f" {name}\n" for name in names))
+
+
+def write_one_module(folder, size, kind):
+    """Writes a library of one module and one file of this size, and beside it what the program
+    prints. Lines go out one by one: a child's peak counts from what this process holds when it
+    starts the child."""
+    write_lid(folder, ["growth"])
+    with open_text(folder, "library.dylan") as file:
+        file.write(LIBRARY + "define module growth use dylan; use format-out; end;\n")
     left = size - len(HEADER)
     with open_text(folder, "growth.dylan") as file, open_text(folder, "printed") as printed:
         file.write(HEADER)
@@ -80,12 +88,64 @@ def write_source(folder, size, kind):
         file.write("\n" * left)
 
 
-def write_library(folder, size, kind):
-    with open_text(folder, "growth.lid") as file:
-        file.write(LID)
+def exported(module, count):
+    """The numbers of the methods that a module of the first ones defines, of so many in all."""
+    return range(module, count, FILES)
+
+
+def module_form(module, count):
+    """The form of a module: those that define nothing export what the one that they use exports."""
+    used = module // 2
+    clauses = ["use dylan;", "use format-out;"]
+    if module >= FILES:
+        clauses.append(f"use m{used % FILES}, export: all;")
+    else:
+        clauses += [f"use m{used}, prefix: \"p-\";"] if module > 0 else []
+        names = ", ".join(f"f{number}" for number in exported(module, count))
+        clauses.append(f"export {names};")
+    return f"define module m{module} {' '.join(clauses)} end;\n"
+
+
+def method_line(number, module, count):
+    """A line of a module that defines a method, and prints what one of the module that it uses
+    gives, with what is printed."""
+    there = exported(module // 2, count)
+    called = there[number // FILES % len(there)]
+    name = f"p-f{called}" if module > 0 else f"f{called}"
+    a, b = number % 97, number % 1000
+    return (
+        f'define method f{number} (n) n + n + {a} end; format-out("%d\\n", {name}({b}));\n',
+        f"{b * 2 + called % 97}\n",
+    )
+
+
+def write_modules(folder, size, kind):
+    """Writes a library of many modules and files, of about this size in all."""
+    count = max(size // 100, FILES)
+    write_lid(folder, [f"m{module}" for module in range(FILES)])
     with open_text(folder, "library.dylan") as file:
         file.write(LIBRARY)
-    write_source(folder, size, kind)
+        for module in range(MODULES):
+            file.write(module_form(module, count))
+    with open_text(folder, "printed") as printed:
+        for module in range(FILES):
+            with open_text(folder, f"m{module}.dylan") as file:
+                file.write(f"module: m{module}\n\n")
+                for number in exported(module, count):
+                    line, line_printed = method_line(number, module, count)
+                    file.write(line)
+                    printed.write(line_printed)
+
+
+def write_library(folder, size, kind):
+    (write_modules if kind == IN_MODULES else write_one_module)(folder, size, kind)
+
+
+def size_of(folder):
+    """The bytes of a library's files."""
+    return sum(
+        os.path.getsize(os.path.join(folder, name)) for name in os.listdir(folder) if name.endswith(".dylan")
+    )
 
 
 def open_text(folder, name):
@@ -148,7 +208,7 @@ def growth(larger, smaller, ratio):
 
 
 def named(size):
-    return f"{size // MIB} MiB" if size >= MIB else f"{size // KIB} KiB"
+    return f"{size / MIB:.1f} MiB" if size >= MIB else f"{size / KIB:.0f} KiB"
 
 
 def table(command, folder, kind):
@@ -163,6 +223,7 @@ def table(command, folder, kind):
     before, faults = None, []
     for size in SIZES:
         it = measure(command, folder, size, kind, RUNS)
+        size = size_of(folder)
         taken = max(it.processor - base.processor, SHORTEST)
         row = [named(size), f"{it.elapsed:.3f} s", f"{it.processor:.3f} s", f"{taken / size * 1e9:.0f} ns"]
         memory = [f"{it.peak / MIB:.1f} MiB", f"{it.peak / size:.0f}"]
@@ -189,7 +250,10 @@ def main():
         command[0] = os.path.abspath(command[0])
     try:
         with tempfile.TemporaryDirectory() as folder:
-            faults = [fault for kind in KINDS for fault in table(command, folder, kind)]
+            faults = []
+            for kind in [*KINDS, IN_MODULES]:
+                with tempfile.TemporaryDirectory(dir=folder) as place:
+                    faults += table(command, place, kind)
     except (Failed, OSError) as error:
         faults = [str(error)]
     for fault in faults:

@@ -1,8 +1,8 @@
--- A library that is accepted is the own library of its forms, so its program may run, and ends.
-use Rattle.std.proofs.Common.{◌≡◌, ℕ, Bool, true, false, List, Option, Some, None, sym, subst, inl, inr}
-use Rattle.std.specs.Str.{bytes_eq}
+-- The program of a library that is accepted may run, and ends.
+use Rattle.std.proofs.Common.{◌≡◌, ℕ, List, [], ◌∷◌, ◌++◌, map, Ok, Err, refl, sym, subst}
+use Rattle.std.specs.Prelude.{Result}
 use Rattle.dy_base.specs.declared.fault.Fault.{Fault}
-use Rattle.dy_tree.specs.declared.token.Token.{Token}
+use Rattle.dy_base.specs.declared.fault.Place.{Place}
 use Rattle.dy_lexer.specs.declared.source.Source.{Source}
 use Rattle.dy_term.specs.declared.rows.LibraryRow.{LibraryRow}
 use Rattle.dy_code.specs.Validity.{IsValid}
@@ -10,68 +10,61 @@ use Rattle.dy_steps.proofs.Never.{valid_code_runs}
 use Rattle.dy_lowering_law.specs.Machines.{linked_program, machine_of}
 use Rattle.dy_lowering_whole.specs.valid.Scoped.{IsScoped}
 use Rattle.dy_library_rows.specs.Libraries.{Form}
-use Rattle.dy_assembly.specs.Libraries.{own_library, wrong_with, program_with}
+use Rattle.dy_assembly.specs.Libraries.{own_heading, program_with}
 use Rattle.dy_machine_laws.proofs.Built.{machine_orderly, valid_programs_end}
-use Rattle.dy_called_generics.proofs.Programs.{own_programs_may_run}
-use Rattle.dy_verdict.specs.declared.lexing.Lexed.{Lexed}
-use Rattle.dy_verdict.specs.declared.lexing.Lexed.TheVariants.{Read, Faulty}
-use Rattle.dy_verdict.specs.Words.{words}
-use Rattle.dy_verdict.specs.Pieces.{pieces_of}
-use Rattle.dy_verdict.specs.Forms.{first_refused, forms_of}
-use Rattle.dy_verdict.specs.Library.{is_library, is_taken}
-use Rattle.dy_verdict.specs.Verdicts.{refused, accepted, verdict_by, forms_verdict, read_verdict, JudgesTokens, JudgesNamed, JudgesBoth, JudgesFiles}
-use Rattle.dy_verdict_laws.proofs.Accepted.{accepted_lowered}
-use Rattle.dy_accepted_runs.specs.Accepted.{AcceptedAreOwn, AcceptedMayRun, AcceptedRun, AcceptedEnd}
+use Rattle.dy_module_forms.specs.declared.written.Form.{Form as Written}
+use Rattle.dy_module_forms.specs.Forms as written
+use Rattle.dy_modules.specs.Clauses.{Name}
+use Rattle.dy_module_numbers.specs.Sorting.{libraries}
+use Rattle.dy_module_tables.specs.Graphs.{Graph}
+use Rattle.dy_graph.specs.Judged.{Given, given, IsTable, Gives}
+use Rattle.dy_library_modules.specs.declared.own_modules.LibraryModules.{LibraryModules}
+use Rattle.dy_library_modules.specs.Words.{words}
+use Rattle.dy_library_modules.specs.Modules.{headers_of, GivesRead, GivesModules}
+use Rattle.dy_library_names.specs.Named.{library_from}
+use Rattle.dy_module_generics.specs.Called.{AreRead}
+use Rattle.dy_module_generics.proofs.Named.{faultless_are_read, named_programs_may_run}
+use Rattle.dy_verdict.specs.Verdicts.{built_in}
+use Rattle.dy_verdict_laws.proofs.Accepted.{IsOfForms, accepted_forms, accepted_lowered}
+use Rattle.dy_accepted_runs.specs.Accepted.{AcceptedAreNamed, AcceptedMayRun, AcceptedRun, AcceptedEnd}
 
-abbrev IsOwn : List ℕ → LibraryRow → Type 0
-IsOwn library row = (forms : List Form) × (row ≡ own_library library forms)
+pub accepted_named : AcceptedAreNamed
+accepted_named library texts row judged =
+    let of = accepted_forms library row texts judged in
+    (of.modules.table, of.forms, of.reading, of.is)
 
-same_row : (row other : LibraryRow) → accepted row ≡ accepted other → row ≡ other
-same_row row other is = cc
+-- the modules of a table are those of the first form that defines the library
+abbrev IsMade : Name → Graph → Type 0
+IsMade library table = (g : Given) × (form : Written) × (g.used ≡ built_in) × IsTable g form table
 
-never : {P : Type 0} (row : LibraryRow) (fault : Fault) → accepted row ≡ refused fault → P
-never row fault is = absurd cc
+by_libraries : (library : Name) (headers : List Name) (forms all : List Written) (table : Graph) → Gives (given library headers forms built_in) all table → IsMade library table
+by_libraries library headers forms [] table gives = absurd gives
+by_libraries library headers forms (form ∷ rest) table gives = (given library headers forms built_in, form, refl, gives.1)
 
-forms_own : (library : List ℕ) (forms : List Form) (row : LibraryRow) (found : Option Fault) → accepted row ≡ verdict_by found (own_library library forms) → IsOwn library row
-forms_own library forms row (Some fault) is = never row fault is
-forms_own library forms row None is = (forms, same_row row (own_library library forms) is)
+by_read : (library : Name) (headers : List Name) (read : Result (List Written) Place) (modules : LibraryModules) → GivesRead library headers built_in read modules → IsMade library modules.table
+by_read library headers (Ok forms) modules has = by_libraries library headers forms (libraries forms) modules.table has.table
+by_read library headers (Err place) modules has = absurd has
 
-read_own : (library : List ℕ) (forms : List Form) (row : LibraryRow) (found : Option Fault) → accepted row ≡ read_verdict found (forms_verdict library forms) → IsOwn library row
-read_own library forms row (Some fault) is = never row fault is
-read_own library forms row None is = forms_own library forms row (wrong_with forms) is
+made : (library : Name) (sources : List Source) (modules : LibraryModules) → GivesModules words library sources built_in modules → IsMade library modules.table
+made library sources modules (trees, users, gives) = by_read library (headers_of sources) (written.forms_of trees) modules gives
 
-tokens_own : (library : List ℕ) (tokens : List Token) (row : LibraryRow) → JudgesTokens library tokens (accepted row) → IsOwn library row
-tokens_own library tokens row (inl (fault, first, is)) = never row fault is
-tokens_own library tokens row (inr (trees, grouped, deep, is)) = read_own library (forms_of (pieces_of trees)) row (first_refused words (pieces_of trees)) is
-
-named_own : (taken : Bool) (library : List ℕ) (first second : Source) (row : LibraryRow) → JudgesNamed taken library first second (accepted row) → IsOwn library row
-named_own true library first second row is = never row _ is
-named_own false library first second row judged = tokens_own library second.tokens row judged
-
-both_own : (is_first same : Bool) (library : List ℕ) (first second : Source) (row : LibraryRow) → JudgesBoth is_first same library first second (accepted row) → IsOwn library row
-both_own false same library first second row is = never row _ is
-both_own true false library first second row is = never row _ is
-both_own true true library first second row judged = named_own (is_taken library) library first second row judged
-
-files_own : (library : List ℕ) (first second : Lexed) (row : LibraryRow) → JudgesFiles library first second (accepted row) → IsOwn library row
-files_own library (Faulty fault) other row is = never row _ is
-files_own library (Read first) (Faulty fault) row is = never row fault is
-files_own library (Read first) (Read second) row judged = both_own (is_library library first) (bytes_eq second.«module» library) library first second row judged
-
-pub accepted_own : AcceptedAreOwn
-accepted_own library first second row (a, b, lexes, also, judged) = files_own library a b row judged
+forms_may_run : (library : List ℕ) (row : LibraryRow) → IsOfForms library row → IsScoped (program_with row) → IsValid (linked_program (program_with row))
+forms_may_run library row of scoped = step (made library of.sources of.modules of.given)
+  where
+    step : IsMade library of.modules.table → IsValid (linked_program (program_with row))
+    step (g, form, used, table) =
+        let read = faultless_are_read g form of.modules.table words.items of.modules.doubled of.forms of.reading used table of.fine in
+        let own = library_from (own_heading library) of.reading.out of.forms in
+        subst (λ (r : LibraryRow). IsValid (linked_program (program_with r))) (sym of.is)
+        (named_programs_may_run library g form of.modules.table words.items of.forms of.reading read (subst (λ (r : LibraryRow). IsScoped (program_with r)) of.is scoped))
 
 pub accepted_may_run : AcceptedMayRun
-accepted_may_run library first second row is = step (accepted_own library first second row is) (accepted_lowered library first second row is).0
-  where
-    step : IsOwn library row → IsScoped (program_with row) → IsValid (linked_program (program_with row))
-    step (forms, same) scoped =
-        subst (λ (r : LibraryRow). IsValid (linked_program (program_with r))) (sym same) (own_programs_may_run library forms (subst (λ (r : LibraryRow). IsScoped (program_with r)) same scoped))
+accepted_may_run library texts row is = forms_may_run library row (accepted_forms library row texts is) (accepted_lowered library texts row is).0
 
 pub accepted_run : AcceptedRun
-accepted_run library first second row is =
+accepted_run library texts row is =
     let program = program_with row in
-    valid_code_runs (machine_of program) (accepted_may_run library first second row is) (machine_orderly program)
+    valid_code_runs (machine_of program) (accepted_may_run library texts row is) (machine_orderly program)
 
 pub accepted_end : AcceptedEnd
-accepted_end library first second row fuel is = valid_programs_end (program_with row) fuel (accepted_may_run library first second row is)
+accepted_end library texts row fuel is = valid_programs_end (program_with row) fuel (accepted_may_run library texts row is)

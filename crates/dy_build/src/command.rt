@@ -184,7 +184,7 @@ fn build<F: Files, O: Sink, E: Sink>(
 ///
 /// Where the files do not tell what they hold, as those of the host do not, the clauses tie no
 /// status to their texts. With 0, 1 and 7 all was sent that the program of a library comes to which
-/// some two texts were judged to be; with 2 comes the line of a refusal, which says that a file is
+/// some texts were judged to be; with 2 comes the line of a refusal, which says that a file is
 /// absent only where the files missed one; with 3 the usage, only where the words are not accepted;
 /// with 4 the line of the LID file or of a file of a printable name beside it, only where a file
 /// failed; and 5 comes only where a sink failed.

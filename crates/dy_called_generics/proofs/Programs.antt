@@ -1,34 +1,29 @@
--- In the program of an own library each generic function that code calls is there.
-use Rattle.std.proofs.Common.{◌≡◌, ◌⊎◌, inl, inr, ℕ, zero, suc, ◌+◌, ◌<◌, ◌≤◌, true, List, [], ◌∷◌, ◌++◌, length, map, flat_map, Option, Some, None, is_some, slice_get, refl, sym, ap, ◌∙◌, subst, arith}
+-- In the program of a library each generic function that code calls is there, where its names have
+-- rows; and so in that of an own library.
+use Rattle.std.proofs.Common.{◌≡◌, ◌⊎◌, inl, inr, ℕ, zero, suc, ◌<◌, List, [], length, flat_map, Some, None, is_some, slice_get, refl, sym, ap, subst, arith}
 use Rattle.std.specs.Prelude.{IsSome}
 use Rattle.dy_base.specs.declared.ids.BindingId.{BindingId}
 use Rattle.dy_base.specs.declared.ids.What.TheVariants as whats
 use Rattle.dy_tree.specs.declared.token.Token.{Token}
 use Rattle.dy_term.specs.declared.rows.ClassRow.{ClassRow}
-use Rattle.dy_term.specs.declared.rows.GenericRow.{GenericRow}
 use Rattle.dy_term.specs.declared.rows.MethodRow.{MethodRow}
-use Rattle.dy_term.specs.declared.rows.SlotRow.{SlotRow}
 use Rattle.dy_term.specs.declared.rows.VariableRow.{VariableRow}
-use Rattle.dy_term.specs.declared.rows.TopTerm.{TopTerm}
 use Rattle.dy_term.specs.declared.rows.Row.{Row}
 use Rattle.dy_term.specs.declared.rows.Row.TheVariants as rows
 use Rattle.dy_term.specs.declared.rows.LibraryRow.{LibraryRow}
 use Rattle.dy_term.specs.declared.rows.Program.{Program}
-use Rattle.dy_names.specs.Naming.{Table}
 use Rattle.dy_names.specs.Outside.{Outside}
 use Rattle.dy_prims.specs.Rows.{dylan_row, io_row}
 use Rattle.dy_library_rows.specs.Names.{Names, exports, no_rows, with_forms, outside_with}
 use Rattle.dy_library_rows.specs.Libraries.{Form, rows_of}
-use Rattle.dy_assembly.specs.Generics.{number_in, offers, numbered, generics_of}
-use Rattle.dy_assembly.specs.Libraries.{class_in, generic_in, method_in, variable_in, top_in, drafts_of, own_names, own_library, program_with}
+use Rattle.dy_assembly.specs.Generics.{number_in}
+use Rattle.dy_assembly.specs.Libraries.{class_in, generic_in, method_in, variable_in, top_in, drafts_of, own_heading, library_of, own_names, own_library, program_with}
 use Rattle.dy_code.specs.declared.unit.Linked.{Linked}
 use Rattle.dy_code.specs.Programs.{if_there, generic_row}
-use Rattle.dy_code.specs.Validity.{Every, IsValid}
+use Rattle.dy_code.specs.Validity.{Every}
 use Rattle.dy_lowered.specs.Bodies.{FlatBody, bodies_of}
 use Rattle.dy_lowering_law.specs.Machines.{linked_program}
-use Rattle.dy_lowering_whole.specs.valid.Scoped.{IsScoped}
 use Rattle.dy_lowering_whole.specs.valid.Valid.{FlatFound, GenericsAreThere}
-use Rattle.dy_lowering_whole.proofs.valid.Laying.{every_append}
 use Rattle.dy_lowering_whole.proofs.valid.Securing.{scoped_programs_may_run}
 use Rattle.dy_lowering_whole.proofs.valid.Soundness.{got}
 use Rattle.dy_called_generics.specs.Called.{OwnGenericsAreThere, OwnProgramsMayRun, OwnProgramsEnd}
@@ -45,9 +40,14 @@ same_Some x y e = cc
 none_some : {A : Type 0} (x : A) → None ≡ Some x → ⊥
 none_some x e = cc
 
-module _ (name : List ℕ) (forms : List Form) where
+-- A library whose forms and names are these: a name of a generic function is one of `dylan`, or has a
+-- number of the library below a count, and each number below the count is that of a name which is
+-- offered a row.
+module _ (name : List ℕ) (out : Outside) (forms : List Form) (count : ℕ)
+    (meant : (token : Token) (b : BindingId) → out.owner token ≡ Some b → b.what ≡ whats.Generic → IsOfDylan b ⊎ IsOwn count b)
+    (each : (number : ℕ) → number < count → IsNamed (λ (token : Token). IsOffered token (offered out forms)) out.owner number) where
   abbrev library : LibraryRow
-  library = own_library name forms
+  library = library_of (own_heading name) out.owner (drafts_of forms) (rows_of out forms)
 
   abbrev program : Program
   program = program_with library
@@ -55,36 +55,24 @@ module _ (name : List ℕ) (forms : List Form) where
   abbrev linked : Linked
   linked = linked_program program
 
-  abbrev names : Names
-  names = with_forms (drafts_of forms) (exports, no_rows)
-
-  abbrev out : Outside
-  out = outside_with (own_names forms)
-
-  abbrev Test : Token → Type 0
-  Test token = IsOffered token (offered out forms)
-
-  whole : AreWhole Test names
-  whole = names_whole Test (drafts_of forms) (all_tested out forms)
-
   -- a row of a library, by the places of both
   abbrev RowThere : ℕ → ℕ → Type 0
   RowThere place row = IsSome (if_there (slice_get program.libraries place) (λ l. slice_get l.generics row))
 
-  own_there : (row : ℕ) → row < names.1.generics → RowThere 2 row
+  own_there : (row : ℕ) → row < count → RowThere 2 row
   own_there row low =
-      row_there 2 (own_names forms) (drafts_of forms) (flat_map generic_in (rows_of out forms)) row
-      (λ j below. let named = whole.each j (omega (arith, below, low)) in number_there 2 (own_names forms) (offered out forms) named.token j named.tested (ap (number_in 2) named.meant))
+      row_there 2 out.owner (drafts_of forms) (flat_map generic_in (rows_of out forms)) row
+      (λ j below. let named = each j (omega (arith, below, low)) in number_there 2 out.owner (offered out forms) named.token j named.tested (ap (number_in 2) named.meant))
 
   dylan_there : (row : ℕ) → row < length dylan_row.generics → RowThere 0 row
   dylan_there row low = let g = got dylan_row.generics row low in ap is_some g.same
 
-  placed : (b : BindingId) → IsOfDylan b ⊎ IsOwn names.1.generics b → IsSome (generic_row linked (record { 0 = b.at }))
+  placed : (b : BindingId) → IsOfDylan b ⊎ IsOwn count b → IsSome (generic_row linked (record { 0 = b.at }))
   placed b (inl dylan) = subst (λ (place : ℕ). RowThere place b.at.row) (sym dylan.0) (dylan_there b.at.row dylan.1)
   placed b (inr own) = subst (λ (place : ℕ). RowThere place b.at.row) (sym own.0) (own_there b.at.row own.1)
 
   names_known : NamesKnown linked out
-  names_known token b e is = placed b (whole.rows token b e is)
+  names_known token b e is = placed b (meant token b e is)
 
   -- the rows of each kind
   found_rows : Every (RowKnown linked) (rows_of out forms)
@@ -127,14 +115,31 @@ module _ (name : List ℕ) (forms : List Form) where
   no_bodies : (l : LibraryRow) → bodies_of l ≡ [] → BodiesKnown l
   no_bodies l e = subst (Every (λ (body : FlatBody). Every (FlatFound linked) body.code)) (sym e) tt
 
-  all_there : (place : ℕ) (l : LibraryRow) → slice_get program.libraries place ≡ Some l → BodiesKnown l
-  all_there zero l e = subst BodiesKnown (same_Some dylan_row l e) (no_bodies dylan_row dylan_bodies)
-  all_there (suc zero) l e = subst BodiesKnown (same_Some io_row l e) (no_bodies io_row io_bodies)
-  all_there (suc (suc zero)) l e = subst BodiesKnown (same_Some library l e) (bodies_known linked library library_known)
-  all_there (suc (suc (suc place))) l e = absurd (none_some l e)
+  pub generics_are_there : GenericsAreThere program
+  generics_are_there zero l e = subst BodiesKnown (same_Some dylan_row l e) (no_bodies dylan_row dylan_bodies)
+  generics_are_there (suc zero) l e = subst BodiesKnown (same_Some io_row l e) (no_bodies io_row io_bodies)
+  generics_are_there (suc (suc zero)) l e = subst BodiesKnown (same_Some library l e) (bodies_known linked library library_known)
+  generics_are_there (suc (suc (suc place))) l e = absurd (none_some l e)
+
+-- a library whose names are those of one table
+module _ (name : List ℕ) (forms : List Form) where
+  abbrev names : Names
+  names = with_forms (drafts_of forms) (exports, no_rows)
+
+  abbrev out_of : Outside
+  out_of = outside_with (own_names forms)
+
+  abbrev Test : Token → Type 0
+  Test token = IsOffered token (offered out_of forms)
+
+  whole : AreWhole Test names
+  whole = names_whole Test (drafts_of forms) (all_tested out_of forms)
+
+  own_there_all : GenericsAreThere (program_with (own_library name forms))
+  own_there_all = generics_are_there name out_of forms names.1.generics whole.rows whole.each
 
 pub own_generics_are_there : OwnGenericsAreThere
-own_generics_are_there name forms = all_there name forms
+own_generics_are_there name forms = own_there_all name forms
 
 pub own_programs_may_run : OwnProgramsMayRun
 own_programs_may_run name forms scoped = scoped_programs_may_run (program_with (own_library name forms)) scoped (own_generics_are_there name forms)

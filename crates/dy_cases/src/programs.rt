@@ -1,17 +1,18 @@
 //! The program of a text, and both runs of it.
 
-ghost use Rattle.std.specs.Prelude.{◌≤◌, ◌<◌, ◌^◌, length, IfOk};
+ghost use Rattle.std.specs.Prelude.{◌≡◌, ◌≤◌, ◌<◌, ◌^◌, [], ◌∷◌, length, IfOk};
+ghost use Rattle.dy_library_modules.specs.Texts.{AreShort, AreFew};
 ghost use Rattle.dy_sources.specs.Judged.{IsAccepted};
 
 use dy_assembly::program_with;
-use dy_base::Refusal;
+use dy_base::{Name, Refusal, Text, fold};
 use dy_evaluate::evaluate;
 use dy_io::MemSink;
 use dy_running::run_program;
 use dy_term::LibraryRow;
 use dy_values::RunEnd;
 use dy_verdict::read_sources;
-use std::alloc::Global;
+use std::alloc::{AllocError, Global};
 
 /// The first file of the library `cases`.
 const LIBRARY: &[u8] = b"module: dylan-user\n\n\
@@ -25,18 +26,23 @@ pub(crate) struct Seen {
     pub(crate) out: MemSink,
 }
 
-/// The library of two files.
-fn library_of(
-    alloc: Global,
-    name: &[u8],
-    first: &[u8],
-    second: &[u8],
-) -> Result<LibraryRow, Refusal>
-    requires first { length first.now < 2 ^ 32 }
-    requires second { length second.now < 2 ^ 32 }
+/// The texts of the two files.
+fn texts_of(alloc: Global, first: &[u8], second: Vec<u8>) -> Result<Vec<Text>, AllocError>
+    ensures { IfOk result (λ texts. texts.items ≡ first.now ∷ second.items ∷ []) }
+{
+    let mut texts = Vec::new(alloc);
+    texts.push(Text::of(alloc, first)?)?;
+    texts.push(Text::from_vec(second))?;
+    Ok(texts)
+}
+
+/// The library of these files.
+fn library_of(alloc: Global, name: &Name, texts: &[Text]) -> Result<LibraryRow, Refusal>
+    requires short { AreShort texts.now }
+    requires few { AreFew texts.now }
     ensures { IfOk result IsAccepted }
 {
-    read_sources(alloc, name, first, second)
+    read_sources(alloc, name, texts)
 }
 
 /// What the machine does with the program of a library, and what the evaluator does with it.
@@ -61,6 +67,7 @@ pub(crate) fn run_both(alloc: Global, text: &str, fuel: u64) -> Result<(Seen, Se
 {
     let mut forms = Vec::from_slice(alloc, b"module: cases\n\n")?;
     forms.extend_from_slice(text.as_bytes())?;
-    let library = library_of(alloc, b"cases", LIBRARY, &forms)?;
+    let texts = texts_of(alloc, LIBRARY, forms)?;
+    let library = library_of(alloc, &fold(alloc, b"cases")?, &texts)?;
     run_library(alloc, library, fuel)
 }

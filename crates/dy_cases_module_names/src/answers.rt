@@ -2,14 +2,14 @@
 
 use crate::files::{Case, File};
 use crate::forms::forms_of;
-use crate::libraries::{OWN, library_name};
+use crate::libraries::{heading, library_name};
 use crate::modules::table_of;
 use crate::words::words;
 use dy_base::{BindingId, Fault, Items, Name, Place, Refusal, What, fold};
 use dy_library_names::name_library;
 use dy_module_names::resolve;
 use dy_module_tables::ModuleTable;
-use dy_term::Draft;
+use dy_term::{Draft, LibraryRow, Row};
 use std::alloc::{AllocError, Global};
 
 fn write_bytes(bytes: &[u8], out: &mut String) -> Result<(), AllocError> {
@@ -140,7 +140,21 @@ fn write_answers(
     Ok(())
 }
 
-/// How many rows these forms have, each by itself.
+/// How many of these rows are none of generic functions.
+fn count_others(rows: &[Row]) -> usize {
+    let mut count = 0usize;
+    for row in rows {
+        match row {
+            Row::Generic(_) => {}
+            Row::Class(_) | Row::Method(_) | Row::Domain(_) | Row::Variable(_) | Row::Top(_) => {
+                count = count.saturating_add(1);
+            }
+        }
+    }
+    count
+}
+
+/// How many rows these forms have, each by itself, but those of generic functions.
 fn count_rows(
     alloc: Global,
     table: &ModuleTable,
@@ -149,17 +163,29 @@ fn count_rows(
     let mut count = 0usize;
     for (_place, draft) in forms {
         let rows = resolve(alloc, table, draft)?;
-        count = count.saturating_add(rows.len());
+        count = count.saturating_add(count_others(rows.as_slice()));
     }
     Ok(count)
+}
+
+/// How many rows a library has, but those of generic functions, of which methods and slots make
+/// more.
+fn count_of(library: &LibraryRow) -> usize {
+    library
+        .classes
+        .len()
+        .saturating_add(library.methods.len())
+        .saturating_add(library.domains.len())
+        .saturating_add(library.variables.len())
+        .saturating_add(library.tops.len())
 }
 
 fn write_names(alloc: Global, case: &Case, out: &mut String) -> Result<(), Refusal> {
     let words = words(alloc)?;
     let (table, doubled) = table_of(alloc, &case.files, &words)?;
     let forms = forms_of(alloc, &case.files, &words)?;
-    let named = name_library(alloc, OWN, &words, table, doubled, &forms)?;
-    if count_rows(alloc, &named.table, &forms)? != named.rows.len() {
+    let named = name_library(alloc, heading(alloc)?, &words, table, doubled, &forms)?;
+    if count_rows(alloc, &named.table, &forms)? != count_of(&named.library) {
         out.push_str("other rows; ")?;
     }
     write_answers(alloc, case, &named.table, out)?;

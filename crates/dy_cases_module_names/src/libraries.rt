@@ -1,10 +1,11 @@
 //! The libraries that the cases use, and their numbers.
 
+use dy_assembly::Heading;
 use dy_base::{BindingId, Exports, Items, Name, Ref, What, fold};
 use std::alloc::{AllocError, Global};
 
 /// The number of the library that a case defines.
-pub(crate) const OWN: u32 = 3;
+const OWN: u32 = 3;
 
 /// A module with what its names stand for, by library and row.
 type Module = (&'static str, &'static [(&'static str, What, u32, u32)]);
@@ -51,6 +52,19 @@ pub(crate) fn library_name(number: u32) -> &'static str {
         Some(library) => library.0,
         None => "l",
     }
+}
+
+/// What the library that a case defines is beside its rows. It uses all others.
+pub(crate) fn heading(alloc: Global) -> Result<Heading, AllocError> {
+    let mut uses = Items::new(alloc);
+    for number in 0..OWN {
+        uses.push(number)?;
+    }
+    Ok(Heading {
+        number: OWN,
+        name: fold(alloc, b"l")?,
+        uses,
+    })
 }
 
 fn names_of(

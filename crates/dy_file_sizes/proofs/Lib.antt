@@ -1,6 +1,7 @@
 pub mod Forms
 pub mod Joining
 pub mod Libraries
+pub mod Parts
 pub mod Rows
 pub mod Terms
 pub mod Tokens

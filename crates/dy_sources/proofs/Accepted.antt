@@ -7,7 +7,7 @@ use Rattle.dy_verdict_laws.proofs.Accepted.{accepted_lowered}
 use Rattle.dy_sources.specs.Judged.{IsAccepted}
 
 pub scoped : (row : LibraryRow) → IsAccepted row → IsScoped (program_with row)
-scoped row (library, first, second, is) = (accepted_lowered library first second row is).0
+scoped row (library, texts, is) = (accepted_lowered library texts row is).0
 
 pub lowered : (row : LibraryRow) → IsAccepted row → IsLowered (program_with row)
-lowered row (library, first, second, is) = (accepted_lowered library first second row is).1
+lowered row (library, texts, is) = (accepted_lowered library texts row is).1

@@ -1,12 +1,12 @@
 -- The definitions at examples, which they compute.
-use Rattle.std.proofs.Common.{◌≡◌, false, [], ◌∷◌, Some, refl}
+use Rattle.std.proofs.Common.{◌≡◌, false, [], ◌∷◌, Some, None, refl}
 use Rattle.std.specs.Prelude.{codes}
 use Rattle.std.specs.Fmt.{digits}
 use Rattle.dy_lexer.specs.Headers.{is_printable}
 use Rattle.dy_sources.specs.Layout.{source_name}
 use Rattle.dy_sources.specs.Points.{point_at}
-use Rattle.dy_sources.specs.Refusals.{refusal_line, no_file, syntax}
-use Rattle.dy_sources.specs.Verdicts.{too_long, absent as no_source, refused, file, position_of, JudgesFiles}
+use Rattle.dy_sources.specs.Refusals.{refusal_line, no_file, long_file, many_files}
+use Rattle.dy_sources.specs.Verdicts.{position_of}
 
 -- the escape of a line end in a text is the byte 10
 line_end : codes "\n" ≡ 10 ∷ []
@@ -26,9 +26,13 @@ absent_subject : refusal_line (no_file (codes "a.lid") (codes "a.lid")) ≡ code
 unfolding digits
 absent_subject = refl
 
-placed : refusal_line (syntax (codes "hello") (codes "b.dylan") (record { line = 3; column = 20 })) ≡ codes "refused hello: 17 Syntax at b.dylan:3:20\n"
+too_long : refusal_line (long_file (codes "hello") (codes "b.dylan")) ≡ codes "refused hello: 31 Limit at b.dylan:1:1: file 4194304\n"
 unfolding digits
-placed = refl
+too_long = refl
+
+too_many : refusal_line (many_files (codes "a.lid")) ≡ codes "refused a.lid: 31 Limit at a.lid:1:1: files 64\n"
+unfolding digits
+too_many = refl
 
 second_line : point_at (codes "one\n two\n") 5 ≡ record { line = 2; column = 2 }
 second_line = refl
@@ -36,9 +40,9 @@ second_line = refl
 after_return : point_at (codes "one\r\ntwo") 5 ≡ record { line = 2; column = 1 }
 after_return = refl
 
--- an absent file is told before one that is too long
-second_absent : JudgesFiles (codes "hello") (codes "a.dylan") (codes "b.dylan") too_long no_source (refused (no_file (codes "hello") (codes "b.dylan")))
-second_absent = refl
-
-second_file : position_of (file (codes "a.dylan") (codes "one")) (file (codes "b.dylan") (codes "a\nbc")) (Some (record { file = 1; offset = 3 })) ≡ Some (record { file = codes "b.dylan"; line = 2; column = 2 })
+second_file : position_of (codes "a.dylan" ∷ codes "b.dylan" ∷ []) (codes "one" ∷ codes "a\nbc" ∷ []) (Some (record { file = 1; offset = 3 })) ≡ Some (record { file = codes "b.dylan"; line = 2; column = 2 })
 second_file = refl
+
+-- a place in a file that is not there is none
+no_third_file : position_of (codes "a.dylan" ∷ codes "b.dylan" ∷ []) (codes "one" ∷ codes "a\nbc" ∷ []) (Some (record { file = 2; offset = 3 })) ≡ None
+no_third_file = refl

@@ -3,6 +3,7 @@ pub mod Examples
 pub mod Folders
 pub mod FileNames
 pub mod Sources
+pub mod Reading
 pub mod Uniqueness
 pub mod Accepted
 pub mod Judging

@@ -1,6 +1,7 @@
 -- What reading the sources answers.
 use Rattle.std.specs.Prelude.{◌≡◌, ◌≢◌, ◌≤◌, ◌⊎◌, ℕ, List, length, Option, Some, Result, Ok, Err}
-use Rattle.std.specs.Prelude.{Contains, IsTrue}
+use Rattle.std.specs.Prelude.{Contains, IsTrue, true, nat_le}
+use Rattle.std.specs.List.{list_all}
 use Rattle.dy_base.specs.declared.kind.Kind.TheVariants.{NoFile}
 use Rattle.dy_io.specs.Causes.{Rose}
 use Rattle.dy_term.specs.declared.rows.LibraryRow.{LibraryRow}
@@ -12,21 +13,40 @@ use Rattle.dy_io.specs.Files.{FileMap}
 use Rattle.dy_lexer.specs.declared.source.Lid.{Lid}
 use Rattle.dy_lexer.specs.Headers.{is_printable}
 use Rattle.dy_lexer.specs.Sources.{IsLid}
-use Rattle.dy_verdict.specs.Verdicts as texts
+use Rattle.dy_verdict.specs.Verdicts as verdicts
 use Rattle.dy_sources.specs.Layout.{file_limit, source_name}
-use Rattle.dy_sources.specs.Verdicts.{Source, absent, too_long, text, source_at, Verdict, refused}
-use Rattle.dy_sources.specs.Verdicts.{accepted}
+use Rattle.dy_sources.specs.Verdicts.{Source, absent, too_long, text, source_at, source_fault}
+use Rattle.dy_sources.specs.Verdicts.{AreTexts, IsFirstFault, Verdict, refused, accepted}
 
 abbrev pub seen_source : Read → Source
 seen_source read.Absent = absent
 seen_source read.TooLong = too_long
-seen_source (read.Text bytes) = text bytes.items
+seen_source (read.Text bytes) = text bytes
 
 -- no longer than a file may be
 abbrev pub IsWithin : Read → Type 0
 IsWithin read.Absent = Unit {0}
 IsWithin read.TooLong = Unit {0}
-IsWithin (read.Text bytes) = length bytes.items ≤ file_limit
+IsWithin (read.Text bytes) = length bytes ≤ file_limit
+
+-- A file was read that is so: its text, or what is wrong with it.
+abbrev pub IsRead : List ℕ → List ℕ → Source → Result (List ℕ) Halt → Type 0
+IsRead subject name source (Ok bytes) = source ≡ text bytes
+IsRead subject name source (Err (halts.Refused why)) = source_fault subject name source ≡ Some why
+IsRead subject name source (Err (halts.FileFault file)) = Unit {0}
+IsRead subject name source (Err halts.Memory) = Unit {0}
+
+-- Files were read: their texts, or what is wrong with the first that is no text.
+abbrev pub AreRead : FileMap → List ℕ → List (List ℕ) → Result (List (List ℕ)) Halt → Type 0
+AreRead files library names (Ok texts) = AreTexts files names texts
+AreRead files library names (Err (halts.Refused why)) = IsFirstFault files library names why
+AreRead files library names (Err (halts.FileFault file)) = Unit {0}
+AreRead files library names (Err halts.Memory) = Unit {0}
+
+-- so many texts, none of which is longer than a file may be
+abbrev pub AreWithin : ℕ → List (List ℕ) → Type 0
+AreWithin count texts =
+    (list_all (λ bytes. nat_le (length bytes) file_limit) texts ≡ true) × (length texts ≡ count)
 
 -- The answer is judged so, unless a file failed or memory ran out.
 abbrev pub Judged : (Verdict → Type 0) → Result LibraryRow Halt → Type 0
@@ -35,10 +55,10 @@ Judged judges (Err (halts.Refused why)) = judges (refused why)
 Judged judges (Err (halts.FileFault name)) = Unit {0}
 Judged judges (Err halts.Memory) = Unit {0}
 
--- two files of some library come to these rows, whatever is told of files
+-- some texts of some library come to these rows, whatever is told of files
 abbrev pub IsAccepted : LibraryRow → Type 0
-IsAccepted row = (library : List ℕ) × (first : List ℕ) × (second : List ℕ)
-    × texts.IsVerdict library first second (texts.accepted row)
+IsAccepted row = (library : List ℕ) × (texts : List (List ℕ))
+    × verdicts.IsVerdict library texts (verdicts.accepted row)
 
 -- A file is reported absent only where the misses rose.
 abbrev pub Misses : ℕ → ℕ → Halt → Type 0
@@ -69,10 +89,6 @@ abbrev pub TellsName : (List ℕ → Type 0) → Halt → Type 0
 TellsName is (halts.Refused why) = Unit {0}
 TellsName is (halts.FileFault name) = is name
 TellsName is halts.Memory = Unit {0}
-
--- one of two source files beside a LID file
-abbrev pub IsEither : List ℕ → List ℕ → List ℕ → List ℕ → Type 0
-IsEither lid first second name = (name ≡ source_name lid first) ⊎ (name ≡ source_name lid second)
 
 -- a source file of these, each of which lies beside the LID file
 abbrev pub IsSourceOf : List ℕ → List (List ℕ) → List ℕ → Type 0

@@ -11,6 +11,10 @@ is_same text other = pointwise nat_eq text other
 abbrev pub file_limit : ℕ
 file_limit = 4194304
 
+-- A LID file names at most so many files.
+abbrev pub files_limit : ℕ
+files_limit = 64
+
 abbrev pub is_line_feed : ℕ → Bool
 is_line_feed byte = byte == 10
 

@@ -3,8 +3,9 @@ use Rattle.std.specs.Prelude.{ℕ, List, [], ◌∷◌, ◌++◌, Option, Some, 
 use Rattle.std.specs.Prelude.{if◌then◌else◌}
 use Rattle.dy_base.specs.Kinds.{code_of, name_of}
 use Rattle.dy_base.specs.declared.kind.Kind.{Kind}
-use Rattle.dy_base.specs.declared.kind.Kind.TheVariants.{NoFile, Syntax}
+use Rattle.dy_base.specs.declared.kind.Kind.TheVariants.{NoFile, Limit}
 use Rattle.dy_sources.specs.Layout.{is_same}
+use Rattle.dy_sources.specs.Points.{start}
 use Rattle.dy_sources.specs.declared.point.Point.{Point}
 use Rattle.dy_sources.specs.declared.refused.Position.{Position}
 use Rattle.dy_sources.specs.declared.refused.Refused.{Refused}
@@ -45,12 +46,20 @@ no_file subject file =
 abbrev pub position_at : List ℕ → Point → Position
 position_at file point = record { file = file; line = point.line; column = point.column }
 
--- At this place a file is not in the grammar.
-abbrev pub syntax : List ℕ → List ℕ → Point → Refused
-syntax subject file point =
+-- A file is over a limit, which is shown with its number. The place is the file's begin.
+abbrev pub over_limit : List ℕ → List ℕ → List ℕ → List ℕ → Refused
+over_limit subject file quantity most =
     record {
-      kind = Syntax;
+      kind = Limit;
       subject = subject;
-      position = Some (position_at file point);
-      shown = [];
+      position = Some (position_at file start);
+      shown = quantity ∷ most ∷ [];
     }
+
+-- A file is longer than a file may be.
+abbrev pub long_file : List ℕ → List ℕ → Refused
+long_file subject file = over_limit subject file (codes "file") (codes "4194304")
+
+-- A LID file names more files than it may.
+abbrev pub many_files : List ℕ → Refused
+many_files lid = over_limit lid lid (codes "files") (codes "64")

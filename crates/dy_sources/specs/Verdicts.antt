@@ -1,20 +1,21 @@
 -- What the files of a library come to (own).
-use Rattle.std.specs.Prelude.{◌≡◌, ◌⊎◌, ℕ, ◌==◌, nat_le, List, [], ◌∷◌, length, Option, Some, None}
-use Rattle.std.specs.Prelude.{if◌then◌else◌}
+use Rattle.std.specs.Prelude.{◌≡◌, ◌⊎◌, ℕ, Bool, true, false, nat_le, List, [], ◌∷◌, ◌++◌, length}
+use Rattle.std.specs.Prelude.{map as each, slice_get, Option, Some, None, if◌then◌else◌}
+use Rattle.std.specs.Option.{option_map}
 use Rattle.std.specs.FinMap as map
 use Rattle.dy_base.specs.declared.fault.Fault.{Fault}
 use Rattle.dy_base.specs.declared.fault.Place.{Place}
 use Rattle.dy_io.specs.Files.{FileMap}
 use Rattle.dy_lexer.specs.declared.source.Lid.{Lid}
 use Rattle.dy_lexer.specs.Sources.{IsLid, IsLidFault}
+use Rattle.dy_lid_files.specs.Names.{NamesFiles}
 use Rattle.dy_term.specs.declared.rows.LibraryRow.{LibraryRow}
-use Rattle.dy_verdict.specs.Verdicts as texts
-use Rattle.dy_sources.specs.declared.source.File.{File as Held}
+use Rattle.dy_verdict.specs.Verdicts as verdicts
 use Rattle.dy_sources.specs.declared.refused.Position.{Position}
 use Rattle.dy_sources.specs.declared.refused.Refused.{Refused}
-use Rattle.dy_sources.specs.Layout.{file_limit, source_name}
-use Rattle.dy_sources.specs.Refusals.{no_file, position_at, syntax}
-use Rattle.dy_sources.specs.Points.{point_at, start}
+use Rattle.dy_sources.specs.Layout.{file_limit, files_limit, source_name}
+use Rattle.dy_sources.specs.Refusals.{no_file, long_file, many_files, position_at}
+use Rattle.dy_sources.specs.Points.{point_at}
 
 -- a file: absent, longer than a file may be, or a text
 pub data Source : Type 0 where
@@ -34,91 +35,98 @@ pub data Verdict : Type 0 where
   refused : (why : Refused) → Verdict
   accepted : (library : LibraryRow) → Verdict
 
--- a file that was read: its name, and its text
-pub record File : Type 0 where
-  pub name : List ℕ
-  pub text : List ℕ
-
-abbrev pub file : List ℕ → List ℕ → File
-file name bytes = record { name = name; text = bytes }
-
-abbrev pub file_of : Held → File
-file_of held = file held.name.now held.text.now
-
--- the file of this number, 0 or 1
-abbrev pub file_at : File → File → ℕ → File
-file_at first second number = if number == 0 then first else second
-
--- the place at this offset of a file
-abbrev pub position_in : File → ℕ → Position
-position_in file offset = position_at file.name (point_at file.text offset)
-
--- where a fault stands, as a user counts
-abbrev pub position_of : File → File → Option Place → Option Position
-position_of first second None = None
-position_of first second (Some place) =
-    Some (position_in (file_at first second place.file) place.offset)
+-- ---- places
 
 -- a fault with its subject, and with its place as a user counts
-abbrev pub located : List ℕ → File → File → Fault → Refused
-located subject first second fault =
-    record {
-      kind = fault.kind;
-      subject = subject;
-      position = position_of first second fault.place;
-      shown = fault.shown;
-    }
+abbrev pub located : List ℕ → Option Position → Fault → Refused
+located subject position fault =
+    record { kind = fault.kind; subject = subject; position = position; shown = fault.shown }
 
-abbrev pub located_verdict : List ℕ → File → File → texts.Verdict → Verdict
-located_verdict library first second (texts.refused fault) =
-    refused (located library first second fault)
-located_verdict library first second (texts.accepted row) = accepted row
+-- the place at this offset of a file of this name and text, where there is one
+abbrev pub position_in : Option (List ℕ) → Option (List ℕ) → ℕ → Option Position
+position_in (Some name) (Some bytes) offset = Some (position_at name (point_at bytes offset))
+position_in (Some name) None offset = None
+position_in None bytes offset = None
 
--- what the texts of two files come to
-abbrev pub JudgesTexts : List ℕ → File → File → Verdict → Type 0
-JudgesTexts library first second verdict =
-    (judged : texts.Verdict) × texts.IsVerdict library first.text second.text judged
-    × (verdict ≡ located_verdict library first second judged)
+-- where a fault in files of these names and texts stands
+abbrev pub position_of : List (List ℕ) → List (List ℕ) → Option Place → Option Position
+position_of names texts None = None
+position_of names texts (Some place) =
+    position_in (slice_get names place.file) (slice_get texts place.file) place.offset
 
--- Absent files are told first, and then files that are too long.
-abbrev pub JudgesFiles : List ℕ → List ℕ → List ℕ → Source → Source → Verdict → Type 0
-JudgesFiles library first second absent b verdict = verdict ≡ refused (no_file library first)
-JudgesFiles library first second too_long absent verdict =
-    verdict ≡ refused (no_file library second)
-JudgesFiles library first second (text a) absent verdict =
-    verdict ≡ refused (no_file library second)
-JudgesFiles library first second too_long too_long verdict =
-    verdict ≡ refused (syntax library first start)
-JudgesFiles library first second too_long (text b) verdict =
-    verdict ≡ refused (syntax library first start)
-JudgesFiles library first second (text a) too_long verdict =
-    verdict ≡ refused (syntax library second start)
-JudgesFiles library first second (text a) (text b) verdict =
-    JudgesTexts library (file first a) (file second b) verdict
+-- where a fault in a LID file stands
+abbrev pub position_in_lid : List ℕ → List ℕ → Option Place → Option Position
+position_in_lid lid bytes place =
+    option_map (λ at. position_at lid (point_at bytes at.offset)) place
 
--- what a library comes to whose LID file names these files
-abbrev pub JudgesNamed : FileMap → List ℕ → List ℕ → List ℕ → List ℕ → Verdict → Type 0
-JudgesNamed files lid library first second verdict =
-    let a = source_name lid first in
-    let b = source_name lid second in
-    JudgesFiles library a b (source_at files a) (source_at files b) verdict
+-- ---- source files
 
--- A LID file is to name two files.
+abbrev pub located_verdict : List ℕ → List (List ℕ) → List (List ℕ) → verdicts.Verdict → Verdict
+located_verdict library names texts (verdicts.refused fault) =
+    refused (located library (position_of names texts fault.place) fault)
+located_verdict library names texts (verdicts.accepted row) = accepted row
+
+-- what the texts of files of these names come to
+abbrev pub JudgesTexts : List ℕ → List (List ℕ) → List (List ℕ) → Verdict → Type 0
+JudgesTexts library names texts verdict =
+    (judged : verdicts.Verdict) × verdicts.IsVerdict library texts judged
+    × (verdict ≡ located_verdict library names texts judged)
+
+-- what is wrong with a file of this name that is no text
+abbrev pub source_fault : List ℕ → List ℕ → Source → Option Refused
+source_fault subject name absent = Some (no_file subject name)
+source_fault subject name too_long = Some (long_file subject name)
+source_fault subject name (text bytes) = None
+
+-- the files of these names are these texts
+abbrev pub AreTexts : FileMap → List (List ℕ) → List (List ℕ) → Type 0
+AreTexts files names texts = each (source_at files) names ≡ each text texts
+
+-- This is wrong with the first of the files that is no text: all in front of it are texts.
+abbrev pub IsFirstFault : FileMap → List ℕ → List (List ℕ) → Refused → Type 0
+IsFirstFault files library names why =
+    (front : List (List ℕ)) × (name : List ℕ) × (behind : List (List ℕ))
+    × (names ≡ front ++ name ∷ behind)
+    × ((texts : List (List ℕ)) × AreTexts files front texts)
+    × (source_fault library name (source_at files name) ≡ Some why)
+
+-- what the files of these names come to: what is wrong with the first that is no text, else what
+-- their texts come to
+abbrev pub JudgesFiles : FileMap → List ℕ → List (List ℕ) → Verdict → Type 0
+JudgesFiles files library names verdict =
+    ((why : Refused) × IsFirstFault files library names why × (verdict ≡ refused why))
+    ⊎ ((texts : List (List ℕ)) × AreTexts files names texts
+    × JudgesTexts library names texts verdict)
+
+-- ---- LID files
+
+-- what the files come to that a LID file names, which lie beside it
 abbrev pub JudgesNames : FileMap → List ℕ → List ℕ → List (List ℕ) → Verdict → Type 0
-JudgesNames files lid library (first ∷ second ∷ []) verdict =
-    JudgesNamed files lid library first second verdict
-JudgesNames files lid library _ verdict = verdict ≡ refused (syntax lid lid start)
+JudgesNames files lid library names verdict =
+    JudgesFiles files library (each (source_name lid) names) verdict
 
--- what the text of a LID file comes to: its first fault, or what the files that it names come to
+-- a LID file's first fault, or what the files that it names come to
+abbrev pub JudgesForm : FileMap → List ℕ → List ℕ → Verdict → Type 0
+JudgesForm files lid bytes verdict =
+    ((fault : Fault) × IsLidFault bytes fault
+    × (verdict ≡ refused (located lid (position_in_lid lid bytes fault.place) fault)))
+    ⊎ ((found : Lid) × IsLid bytes found × JudgesNames files lid found.library found.files verdict)
+
+-- by whether a LID file names no more files than it may
+abbrev pub JudgesFew : Bool → FileMap → List ℕ → List ℕ → Verdict → Type 0
+JudgesFew false files lid bytes verdict = verdict ≡ refused (many_files lid)
+JudgesFew true files lid bytes verdict = JudgesForm files lid bytes verdict
+
+-- What the text of a LID file comes to. That it names too many files is told before anything that
+-- is wrong with its lines.
 abbrev pub JudgesLid : FileMap → List ℕ → List ℕ → Verdict → Type 0
 JudgesLid files lid bytes verdict =
-    ((fault : Fault) × IsLidFault bytes fault
-    × (verdict ≡ refused (located lid (file lid bytes) (file lid bytes) fault)))
-    ⊎ ((found : Lid) × IsLid bytes found × JudgesNames files lid found.library found.files verdict)
+    (count : ℕ) × NamesFiles bytes count
+    × JudgesFew (nat_le count files_limit) files lid bytes verdict
 
 abbrev pub JudgesSource : FileMap → List ℕ → Source → Verdict → Type 0
 JudgesSource files lid absent verdict = verdict ≡ refused (no_file lid lid)
-JudgesSource files lid too_long verdict = verdict ≡ refused (syntax lid lid start)
+JudgesSource files lid too_long verdict = verdict ≡ refused (long_file lid lid)
 JudgesSource files lid (text bytes) verdict = JudgesLid files lid bytes verdict
 
 -- what the library of a LID file comes to: its first fault, or its rows

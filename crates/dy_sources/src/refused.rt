@@ -3,9 +3,9 @@
 ghost use Rattle.std.specs.Prelude.{◌≡◌, [], ◌∷◌, ◌++◌, IfOk, OnOk, decimal};
 ghost use Rattle.dy_sources.specs.Points.{point_at};
 ghost use Rattle.dy_sources.specs.Refusals.{kind_text, position_text, spaced, shown_text};
-ghost use Rattle.dy_sources.specs.Refusals.{refusal_line, no_file, position_at, syntax};
+ghost use Rattle.dy_sources.specs.Refusals.{refusal_line, no_file, position_at, over_limit};
 
-use crate::point::{Point, point_at};
+use crate::point::{point_at, start};
 use dy_base::{Items, Kind, Text};
 use itoa::Buffer;
 use std::alloc::{AllocError, Global};
@@ -51,24 +51,30 @@ impl Refused {
         })
     }
 
-    /// At this place a file is not in the grammar.
-    pub(crate) fn syntax(
+    /// A file is over a limit, which is shown with its number.
+    pub(crate) fn over_limit(
         alloc: Global,
         subject: &[u8],
         file: &[u8],
-        point: Point,
+        quantity: &[u8],
+        most: &[u8],
     ) -> Result<Refused, AllocError>
-        ensures { IfOk result (λ refused. refused ≡ syntax subject.now file.now point) }
+        ensures { IfOk result
+            (λ refused. refused ≡ over_limit subject.now file.now quantity.now most.now) }
     {
+        let mut shown = Items::new(alloc);
+        shown.push(Text::of(alloc, quantity)?)?;
+        shown.push(Text::of(alloc, most)?)?;
+        let point = start();
         Ok(Refused {
-            kind: Kind::Syntax,
+            kind: Kind::Limit,
             subject: Text::of(alloc, subject)?,
             position: Some(Position {
                 file: Text::of(alloc, file)?,
                 line: point.line,
                 column: point.column,
             }),
-            shown: Items::new(alloc),
+            shown,
         })
     }
 }

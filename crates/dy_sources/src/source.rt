@@ -1,40 +1,43 @@
 //! The sources of a library, read and judged.
 
-ghost use Rattle.std.specs.Prelude.{◌≡◌, ◌≢◌, ◌≤◌, IfOk, IfErr, Some, IsTrue, length};
+ghost use Rattle.std.specs.Prelude.{◌≡◌, ◌≢◌, ◌≤◌, IfOk, IfErr, Some, IsTrue, length, map};
 ghost use Rattle.dy_io.specs.Causes.{Rose};
 ghost use Rattle.dy_io.specs.Files.{FileMap};
-ghost use Rattle.dy_sources.specs.Layout.{file_limit, source_name};
+ghost use Rattle.dy_sources.specs.Layout.{file_limit, files_limit, source_name};
 ghost use Rattle.dy_lexer.specs.Headers.{is_printable, are_printable};
 ghost use Rattle.dy_lexer.specs.Sources.{IsLid};
 ghost use Rattle.dy_lexer.specs.declared.source.Lid.{Lid};
-ghost use Rattle.dy_sources.specs.Points.{start};
-ghost use Rattle.dy_sources.specs.Refusals.{syntax};
-ghost use Rattle.dy_sources.specs.Verdicts.{source_of, source_at, file_of, file_at, position_of};
-ghost use Rattle.dy_sources.specs.Verdicts.{located, JudgesTexts, JudgesFiles, JudgesNamed};
-ghost use Rattle.dy_sources.specs.Verdicts.{JudgesNames, JudgesLid, IsVerdict};
-ghost use Rattle.dy_sources.specs.Judged.{seen_source, IsWithin, Interrupts, Fails, Misses, Judged};
-ghost use Rattle.dy_sources.specs.Judged.{IsPlain, TellsName, IsEither, IsSourceOf, NamesFile};
-ghost use Rattle.dy_sources.specs.Judged.{IsAccepted};
+ghost use Rattle.dy_sources.specs.Refusals.{long_file, many_files};
+ghost use Rattle.dy_sources.specs.Verdicts.{source_of, source_at, position_of, position_in_lid};
+ghost use Rattle.dy_sources.specs.Verdicts.{located, JudgesTexts, JudgesNames, JudgesForm};
+ghost use Rattle.dy_sources.specs.Verdicts.{JudgesLid, IsVerdict};
+ghost use Rattle.dy_sources.specs.Judged.{seen_source, IsWithin, IsRead, AreRead, AreWithin};
+ghost use Rattle.dy_sources.specs.Judged.{Interrupts, Fails, Misses, Judged, IsPlain, TellsName};
+ghost use Rattle.dy_sources.specs.Judged.{IsSourceOf, NamesFile, IsAccepted};
+ghost use Rattle.dy_library_modules.specs.Texts.{AreShort, AreFew};
 
 use crate::names::source_name;
-use crate::point::start;
 use crate::refused::{Position, Refused, position_at};
-use dy_base::{Fault, Place, Refusal, Text};
+use dy_base::{Fault, Items, Name, Place, Refusal, Text};
 use dy_io::{Files, Found, ReadFail};
 use dy_lexer::{Lid, read_lid};
+use dy_lid_files::named_files;
 use dy_term::LibraryRow;
 use dy_verdict::read_sources;
-use std::alloc::{AllocError, Global};
+use std::alloc::{AllocError, AllocFailed, Global};
 
 /// A file has at most so many bytes.
 pub(crate) const FILE_LIMIT: usize = 4_194_304;
+
+/// A LID file names at most so many files.
+const FILES_LIMIT: usize = 64;
 
 /// A source file.
 #[derive(Debug, Drop)]
 pub(crate) enum Source {
     Absent,
     TooLong,
-    Text(Vec<u8>),
+    Text(Text),
 }
 
 /// Why there is no library.
@@ -59,19 +62,30 @@ impl From<AllocError> for Halt {
     }
 }
 
+impl<T: Drop> From<AllocFailed<T>> for Halt {
+    ghost use Rattle.std.specs.Prelude.{◌≡◌};
+    ghost use Rattle.dy_sources.specs.declared.source.Halt.TheVariants.{Memory};
+
+    ghost from_gives = { λ _ halt. halt ≡ Memory };
+
+    fn from(_error: AllocFailed<T>) -> Halt {
+        Halt::Memory
+    }
+}
+
 /// The source of a file's bytes, of which one more than the limit was read at most.
 fn source_of(bytes: Vec<u8>) -> Source
     ensures source { seen_source result ≡ source_of (Some bytes.items) }
     ensures within { IsWithin result }
 {
     if bytes.len() <= FILE_LIMIT {
-        Source::Text(bytes)
+        Source::Text(Text::from_vec(bytes))
     } else {
         Source::TooLong
     }
 }
 
-/// Reads a source file.
+/// Reads a file.
 fn read_source<F: Files>(alloc: Global, files: &mut F, name: &str) -> Result<Source, Halt>
     ensures source { (held : FileMap) → F.contents files.old ≡ Some held
         → IfOk result (λ source. seen_source source ≡ source_at held name.now) }
@@ -93,58 +107,129 @@ fn read_source<F: Files>(alloc: Global, files: &mut F, name: &str) -> Result<Sou
     }
 }
 
-/// A file that was read: its name, and its text.
-#[derive(Clone, Copy, Debug)]
-struct File<'a> {
-    name: &'a [u8],
-    text: &'a [u8],
-}
-
-/// The file of this number, 0 or 1.
-fn file_at<'a>(first: File<'a>, second: File<'a>, number: u32) -> File<'a>
-    ensures { file_of result ≡ file_at (file_of first.entry) (file_of second.entry) number }
+/// The text of a file, or why there is none: the file is absent, or longer than a file may be.
+fn read_text<F: Files>(
+    alloc: Global,
+    files: &mut F,
+    subject: &[u8],
+    name: &str,
+) -> Result<Text, Halt>
+    ensures read { (held : FileMap) → F.contents files.old ≡ Some held
+        → IsRead subject.now name.now (source_at held name.now) result }
+    ensures within { IfOk result (λ text. length text ≤ file_limit) }
+    ensures missed { IfErr result (Misses (F.misses files.old) (F.misses files.new)) }
+    ensures failed { IfErr result (Fails (F.faults files.old) (F.faults files.new)) }
+    ensures named { IfErr result (TellsName (λ told. told ≡ name.now)) }
+    ensures contents { F.contents files.new ≡ F.contents files.old }
+    ensures misses { F.misses files.old ≤ F.misses files.new }
+    ensures faults { F.faults files.old ≤ F.faults files.new }
 {
-    if number == 0 { first } else { second }
+    match read_source(alloc, files, name)? {
+        Source::Absent => {
+            let why = Refused::no_file(alloc, subject, name.as_bytes())?;
+            Err(Halt::Refused(why))
+        }
+        Source::TooLong => {
+            let why = long_file(alloc, subject, name.as_bytes())?;
+            Err(Halt::Refused(why))
+        }
+        Source::Text(text) => Ok(text),
+    }
 }
 
-/// Where a fault stands, as a user counts.
+/// A file is longer than a file may be.
+fn long_file(alloc: Global, subject: &[u8], file: &[u8]) -> Result<Refused, AllocError>
+    ensures { IfOk result (λ why. why ≡ long_file subject.now file.now) }
+{
+    Refused::over_limit(alloc, subject, file, b"file", b"4194304")
+}
+
+/// The texts of the files of these names, which lie beside the LID file, or why the first that has
+/// none has none. No file behind that one is read.
+fn read_texts<F: Files>(
+    alloc: Global,
+    files: &mut F,
+    lid: &str,
+    library: &[u8],
+    names: &[Text],
+) -> Result<Items<Text>, Halt>
+    requires { IsTrue (are_printable names.now) }
+    ensures read { (held : FileMap) → F.contents files.old ≡ Some held
+        → AreRead held library.now (map (source_name lid.now) names.now) result }
+    ensures within { IfOk result (AreWithin (length names.now)) }
+    ensures missed { IfErr result (Misses (F.misses files.old) (F.misses files.new)) }
+    ensures failed { IfErr result (Fails (F.faults files.old) (F.faults files.new)) }
+    ensures named { IfErr result (TellsName (IsSourceOf lid.now names.now)) }
+    ensures contents { F.contents files.new ≡ F.contents files.old }
+    ensures misses { F.misses files.old ≤ F.misses files.new }
+    ensures faults { F.faults files.old ≤ F.faults files.new }
+{
+    let mut texts = Items::new(alloc);
+    for file in names {
+        let name = source_name(alloc, lid, file.bytes())?;
+        texts.push(read_text(alloc, files, library, name.as_str())?)?;
+    }
+    Ok(texts)
+}
+
+/// Where a fault in source files stands, as a user counts. These are their names in the LID file,
+/// and their texts.
 fn position_of(
     alloc: Global,
-    first: File<'_>,
-    second: File<'_>,
+    lid: &str,
+    names: &[Text],
+    texts: &[Text],
     place: Option<Place>,
 ) -> Result<Option<Position>, AllocError>
+    requires { IsTrue (are_printable names.now) }
     ensures { IfOk result (λ position. position
-        ≡ position_of (file_of first.entry) (file_of second.entry) place) }
+        ≡ position_of (map (source_name lid.now) names.now) texts.now place) }
+{
+    let Some(place) = place else {
+        return Ok(None);
+    };
+    let Some(file) = names.get(place.file as usize) else {
+        return Ok(None);
+    };
+    let Some(text) = texts.get(place.file as usize) else {
+        return Ok(None);
+    };
+    let name = source_name(alloc, lid, file.bytes())?;
+    let position = position_at(alloc, name.as_bytes(), text.bytes(), place.offset)?;
+    Ok(Some(position))
+}
+
+/// Where a fault in a LID file stands, as a user counts.
+fn position_in_lid(
+    alloc: Global,
+    lid: &[u8],
+    text: &[u8],
+    place: Option<Place>,
+) -> Result<Option<Position>, AllocError>
+    ensures { IfOk result (λ position. position ≡ position_in_lid lid.now text.now place) }
 {
     match place {
-        Some(place) => {
-            let file = file_at(first, second, place.file);
-            Ok(Some(position_at(alloc, file.name, file.text, place.offset)?))
-        }
+        Some(place) => Ok(Some(position_at(alloc, lid, text, place.offset)?)),
         None => Ok(None),
     }
 }
 
-/// A fault with its subject and its place as a user counts. Its file has number 0 or 1.
+/// A fault with its subject, and with its place as a user counts.
 fn located(
     alloc: Global,
     subject: &[u8],
-    first: File<'_>,
-    second: File<'_>,
+    position: Option<Position>,
     fault: Fault,
 ) -> Result<Refused, AllocError>
-    ensures { IfOk result (λ why. why
-        ≡ located subject.now (file_of first.entry) (file_of second.entry) fault) }
+    ensures { IfOk result (λ why. why ≡ located subject.now position fault) }
 {
     let Fault {
         kind,
         library: _,
-        place,
+        place: _,
         shown,
         numbers: _,
     } = fault;
-    let position = position_of(alloc, first, second, place)?;
     Ok(Refused {
         kind,
         subject: Text::of(alloc, subject)?,
@@ -153,124 +238,42 @@ fn located(
     })
 }
 
-/// The library whose files are these.
+/// The library whose files of these names have these texts.
 fn texts_library(
     alloc: Global,
-    library: &[u8],
-    first: File<'_>,
-    second: File<'_>,
+    lid: &str,
+    library: &Name,
+    names: &[Text],
+    texts: &[Text],
 ) -> Result<LibraryRow, Halt>
-    requires first { length first.text.now ≤ file_limit }
-    requires second { length second.text.now ≤ file_limit }
-    ensures verdict { Judged (JudgesTexts library.now (file_of first.entry) (file_of second.entry))
-        result }
+    requires printable { IsTrue (are_printable names.now) }
+    requires short { AreShort texts.now }
+    requires few { AreFew texts.now }
+    ensures verdict { Judged
+        (JudgesTexts library.now (map (source_name lid.now) names.now) texts.now) result }
     ensures accepted { IfOk result IsAccepted }
     ensures refused { IfErr result IsPlain }
 {
-    match read_sources(alloc, library, first.text, second.text) {
+    match read_sources(alloc, library, texts) {
         Ok(row) => Ok(row),
-        Err(Refusal::Fault(fault)) => Err(Halt::Refused(located(
-            alloc, library, first, second, fault,
-        )?)),
+        Err(Refusal::Fault(fault)) => {
+            let position = position_of(alloc, lid, names, texts, fault.place)?;
+            let why = located(alloc, library.bytes(), position, fault)?;
+            Err(Halt::Refused(why))
+        }
         Err(Refusal::Memory) => Err(Halt::Memory),
     }
 }
 
-/// The library whose files of these names are these sources, of which none is absent.
-fn files_library(
-    alloc: Global,
-    library: &[u8],
-    first_name: &[u8],
-    second_name: &[u8],
-    first: &Source,
-    second: &Source,
-) -> Result<LibraryRow, Halt>
-    requires first { IsWithin first.now }
-    requires second { IsWithin second.now }
-    requires first_here { first.now ≢ Source.Absent }
-    requires second_here { second.now ≢ Source.Absent }
-    ensures verdict { Judged (JudgesFiles library.now first_name.now second_name.now
-        (seen_source first.now) (seen_source second.now)) result }
-    ensures accepted { IfOk result IsAccepted }
-    ensures refused { IfErr result IsPlain }
-{
-    let Source::Text(first) = first else {
-        let why = Refused::syntax(alloc, library, first_name, start())?;
-        return Err(Halt::Refused(why));
-    };
-    let Source::Text(second) = second else {
-        let why = Refused::syntax(alloc, library, second_name, start())?;
-        return Err(Halt::Refused(why));
-    };
-    let first = File {
-        name: first_name,
-        text: first,
-    };
-    let second = File {
-        name: second_name,
-        text: second,
-    };
-    texts_library(alloc, library, first, second)
-}
-
-/// The library whose LID file names these files.
-fn named_library<F: Files>(
-    alloc: Global,
-    files: &mut F,
-    lid: &str,
-    library: &[u8],
-    first: &[u8],
-    second: &[u8],
-) -> Result<LibraryRow, Halt>
-    requires first { IsTrue (is_printable first.now) }
-    requires second { IsTrue (is_printable second.now) }
-    ensures verdict { (held : FileMap) → F.contents files.old ≡ Some held
-        → Judged (JudgesNamed held lid.now library.now first.now second.now) result }
-    ensures accepted { IfOk result IsAccepted }
-    ensures missed { IfErr result (Misses (F.misses files.old) (F.misses files.new)) }
-    ensures failed { IfErr result (Fails (F.faults files.old) (F.faults files.new)) }
-    ensures named { IfErr result (TellsName (IsEither lid.now first.now second.now)) }
-    ensures contents { F.contents files.new ≡ F.contents files.old }
-    ensures misses { F.misses files.old ≤ F.misses files.new }
-    ensures faults { F.faults files.old ≤ F.faults files.new }
-{
-    let first_name = source_name(alloc, lid, first)?;
-    let second_name = source_name(alloc, lid, second)?;
-    let first = read_source(alloc, files, first_name.as_str())?;
-    if let Source::Absent = first {
-        let why = Refused::no_file(alloc, library, first_name.as_bytes())?;
-        return Err(Halt::Refused(why));
-    }
-    let second = read_source(alloc, files, second_name.as_str())?;
-    if let Source::Absent = second {
-        let why = Refused::no_file(alloc, library, second_name.as_bytes())?;
-        return Err(Halt::Refused(why));
-    }
-    files_library(
-        alloc,
-        library,
-        first_name.as_bytes(),
-        second_name.as_bytes(),
-        &first,
-        &second,
-    )
-}
-
-/// A LID file is out of form. Its own name is the subject, since no library is known.
-fn lid_fault(alloc: Global, lid: &[u8]) -> Result<Refused, AllocError>
-    ensures { IfOk result (λ why. why ≡ syntax lid.now lid.now start) }
-{
-    Refused::syntax(alloc, lid, lid, start())
-}
-
-/// The library of a LID file that says this: it is to name two files.
+/// The library of a LID file that says this.
 fn found_library<F: Files>(
     alloc: Global,
     files: &mut F,
     lid: &str,
     found: &Lid,
 ) -> Result<LibraryRow, Halt>
-    requires { IsTrue (are_printable found.now.files) }
+    requires printable { IsTrue (are_printable found.now.files) }
+    requires few { length found.now.files ≤ files_limit }
     ensures verdict { (held : FileMap) → F.contents files.old ≡ Some held
         → Judged (JudgesNames held lid.now found.now.library found.now.files) result }
     ensures accepted { IfOk result IsAccepted }
@@ -281,13 +284,48 @@ fn found_library<F: Files>(
     ensures misses { F.misses files.old ≤ F.misses files.new }
     ensures faults { F.faults files.old ≤ F.faults files.new }
 {
-    match found.files.as_slice() {
-        [first, second] => {
-            let library = found.library.bytes();
-            named_library(alloc, files, lid, library, first.bytes(), second.bytes())
+    let names = found.files.as_slice();
+    let texts = read_texts(alloc, files, lid, found.library.bytes(), names)?;
+    texts_library(alloc, lid, &found.library, names, texts.as_slice())
+}
+
+/// The library of a LID file of this text, if it is in form.
+fn form_library<F: Files>(
+    alloc: Global,
+    files: &mut F,
+    lid: &str,
+    text: &[u8],
+) -> Result<LibraryRow, Halt>
+    requires within { length text.now ≤ file_limit }
+    requires few { (found : Lid) → IsLid text.now found → length found.files ≤ files_limit }
+    ensures verdict { (held : FileMap) → F.contents files.old ≡ Some held
+        → Judged (JudgesForm held lid.now text.now) result }
+    ensures accepted { IfOk result IsAccepted }
+    ensures missed { IfErr result (Misses (F.misses files.old) (F.misses files.new)) }
+    ensures failed { IfErr result (Fails (F.faults files.old) (F.faults files.new)) }
+    ensures named { IfErr result
+        (TellsName (λ told. (found : Lid) × IsLid text.now found
+        × IsSourceOf lid.now found.files told)) }
+    ensures contents { F.contents files.new ≡ F.contents files.old }
+    ensures misses { F.misses files.old ≤ F.misses files.new }
+    ensures faults { F.faults files.old ≤ F.faults files.new }
+{
+    match read_lid(alloc, text) {
+        Ok(found) => found_library(alloc, files, lid, &found),
+        Err(Refusal::Fault(fault)) => {
+            let position = position_in_lid(alloc, lid.as_bytes(), text, fault.place)?;
+            let why = located(alloc, lid.as_bytes(), position, fault)?;
+            Err(Halt::Refused(why))
         }
-        _ => Err(Halt::Refused(lid_fault(alloc, lid.as_bytes())?)),
+        Err(Refusal::Memory) => Err(Halt::Memory),
     }
+}
+
+/// A LID file names more files than it may.
+fn many_files(alloc: Global, lid: &[u8]) -> Result<Refused, AllocError>
+    ensures { IfOk result (λ why. why ≡ many_files lid.now) }
+{
+    Refused::over_limit(alloc, lid, lid, b"files", b"64")
 }
 
 /// The library of a LID file of this text.
@@ -310,29 +348,25 @@ fn lid_library<F: Files>(
     ensures misses { F.misses files.old ≤ F.misses files.new }
     ensures faults { F.faults files.old ≤ F.faults files.new }
 {
-    match read_lid(alloc, text) {
-        Ok(found) => found_library(alloc, files, lid, &found),
-        Err(Refusal::Fault(fault)) => {
-            let file = File {
-                name: lid.as_bytes(),
-                text,
-            };
-            let why = located(alloc, lid.as_bytes(), file, file, fault)?;
-            Err(Halt::Refused(why))
-        }
-        Err(Refusal::Memory) => Err(Halt::Memory),
+    if named_files(text) <= FILES_LIMIT {
+        form_library(alloc, files, lid, text)
+    } else {
+        let why = many_files(alloc, lid.as_bytes())?;
+        Err(Halt::Refused(why))
     }
 }
 
 /// The library of a LID file, as rows, or why there is none.
 ///
-/// A LID file names two source files, which lie beside it. Each of the three files has at most
-/// 4,194,304 bytes; one that is longer is out of form. An absent file is told before a file that is
-/// out of form, and the LID file before its sources.
+/// A LID file names up to 64 source files, which lie beside it. Each file has at most 4,194,304
+/// bytes. A LID file that is absent is told first, then one that is too long or names too many
+/// files, then the first line of it that is out of form; then, of the first source file in its
+/// order that is absent or too long, that it is so; and then the first fault of the texts. Files
+/// are read in this order, and none behind a fault.
 ///
 /// `Refused` comes with the first fault of the library, as `read_sources` of `dy_verdict` finds it
-/// in the two files; `FileFault` where the files count one more failure, with the name of a file
-/// that is read for this LID file; and `Memory` where memory ran out. No file is written.
+/// in the texts; `FileFault` where the files count one more failure, with the name of a file that
+/// is read for this LID file; and `Memory` where memory ran out. No file is written.
 pub fn read_library<F: Files>(alloc: Global, files: &mut F, lid: &str) -> Result<LibraryRow, Halt>
     ensures verdict { (held : FileMap) → F.contents files.old ≡ Some held
         → Judged (IsVerdict held lid.now) result }
@@ -344,12 +378,6 @@ pub fn read_library<F: Files>(alloc: Global, files: &mut F, lid: &str) -> Result
     ensures misses { F.misses files.old ≤ F.misses files.new }
     ensures faults { F.faults files.old ≤ F.faults files.new }
 {
-    match read_source(alloc, files, lid)? {
-        Source::Absent => {
-            let why = Refused::no_file(alloc, lid.as_bytes(), lid.as_bytes())?;
-            Err(Halt::Refused(why))
-        }
-        Source::TooLong => Err(Halt::Refused(lid_fault(alloc, lid.as_bytes())?)),
-        Source::Text(text) => lid_library(alloc, files, lid, &text),
-    }
+    let text = read_text(alloc, files, lid.as_bytes(), lid)?;
+    lid_library(alloc, files, lid, text.bytes())
 }

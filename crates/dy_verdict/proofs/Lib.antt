@@ -1,13 +1,11 @@
-pub mod Adding
 pub mod Cutting
 pub mod FormsRead
-pub mod Judging
-pub mod Names
+pub mod Grouping
 pub mod PiecesRead
 pub mod PlainForms
+pub mod PlainModules
 pub mod PlainNames
 pub mod PlainRows
 pub mod PlainTokens
 pub mod Reading
-pub mod TakenKeys
 pub mod Verdicts

@@ -1,5 +1,5 @@
 -- No fault of forms that are read says that a file is absent.
-use Rattle.std.proofs.Common.{◌≡◌, Bool, true, false, List, [], ◌∷◌, map, Option, Some, None, refl, ◌∙◌}
+use Rattle.std.proofs.Common.{◌≡◌, Bool, true, false, List, [], ◌∷◌, ◌++◌, map, Option, Some, None, refl, sym, subst, ◌∙◌}
 use Rattle.std.specs.List.{list_any}
 use Rattle.dy_base.specs.declared.fault.Fault.{Fault}
 use Rattle.dy_base.specs.declared.fault.Place.{Place}
@@ -13,7 +13,7 @@ use Rattle.dy_term.specs.Rows.{CoreMethod, CoreDomain, CoreVariable, function, t
 use Rattle.dy_term.specs.Rows.{CoreTop, init, run, CoreDraft, class_row, generic_row, method_row}
 use Rattle.dy_term.specs.Rows.{domain_row, variable_row, top_term}
 use Rattle.dy_names.specs.declared.denotation.Denotation.TheVariants.{NextMethod, NoMethod}
-use Rattle.dy_names.specs.Naming.{Locals, Table}
+use Rattle.dy_names.specs.Naming.{Locals}
 use Rattle.dy_names.specs.Outside.{Outside}
 use Rattle.dy_binding.specs.declared.progress.Progress.{Progress}
 use Rattle.dy_binding.specs.Reads.{none}
@@ -25,8 +25,10 @@ use Rattle.dy_rows.specs.Rows.{bound_to, generic_by, generic_of, no_class, class
 use Rattle.dy_rows.specs.Rows.{classes_of, setter_of, read_init, read_filling, read_slot, read_slots}
 use Rattle.dy_rows.specs.Rows.{read_class, read_shape, read_generic, read_method, read_domain}
 use Rattle.dy_rows.specs.Rows.{read_variables, read_variable, read_top, read_draft}
-use Rattle.dy_library_rows.specs.Names.{plain_type, outside_with}
-use Rattle.dy_library_rows.specs.Libraries.{Form, or_fault, limit_of, read_form, first_fault, first_limit}
+use Rattle.dy_library_rows.specs.Names.{plain_type}
+use Rattle.dy_library_rows.specs.Libraries.{Form, read_form}
+use Rattle.dy_library_names.specs.Told.{or_more}
+use Rattle.dy_library_names.specs.Named.{form_faults, limit_by, limits}
 use Rattle.dy_verdict.proofs.PlainTokens.{IsPresent}
 use Rattle.dy_verdict.proofs.PlainNames.{Tells, Fine, IsTyped, told_fine, unbound_fine, type_fine}
 use Rattle.dy_verdict.proofs.PlainNames.{types_fine, results_fine, term_fine, lambda_fine}
@@ -132,22 +134,34 @@ module _ (out : Outside) (types : (locals : Locals) (declared : CoreType) → Is
   draft_fine (variable_row variable) locals p fine = variable_fine variable locals p fine
   draft_fine (top_term top) locals p fine = top_fine top locals p fine
 
-pub or_tells : (first other : Option Fault) → Tells first → Tells other → Tells (or_fault first other)
-or_tells None other f o = o
-or_tells (Some fault) other f o = f
+-- of these no fault does
+abbrev pub AllTell : List Fault → Type 0
+AllTell [] = Unit {0}
+AllTell (fault ∷ faults) = IsPresent fault × AllTell faults
 
-limit_tells : (place : Place) (wide : Bool) → Tells (limit_of place wide)
-limit_tells place true = λ e. cc
-limit_tells place false = tt
+pub all_tell : (some more : List Fault) → AllTell some → AllTell more → AllTell (some ++ more)
+all_tell [] more s m = m
+all_tell (fault ∷ some) more s m = (s.0, all_tell some more s.1 m)
 
-pub faults_tell : (owner : Table) (forms : List Form) → Tells (first_fault (outside_with owner) forms)
-faults_tell owner [] = tt
-faults_tell owner (form ∷ forms) =
-    or_tells (read_form (outside_with owner) form.1).1.first (first_fault (outside_with owner) forms)
-    (draft_fine (outside_with owner) (λ locals declared. plain_typed declared) form.1 [] none tt) (faults_tell owner forms)
+more_tell : (first : Option Fault) (faults : List Fault) → Tells first → AllTell faults → AllTell (or_more first faults)
+more_tell None faults f all = all
+more_tell (Some fault) faults f all = (f, all)
 
-pub limits_tell : (out : Outside) (forms : List Form) → Tells (first_limit out forms)
+limit_tells : (place : Place) (found : Option Fault) (wide : Bool) → Tells (limit_by place found wide)
+limit_tells place (Some fault) wide = tt
+limit_tells place None true = λ e. cc
+limit_tells place None false = tt
+
+module _ (out : Outside) (types : (locals : Locals) (declared : CoreType) → out.type locals declared ≡ plain_type declared) where
+  pub forms_tell : (forms : List Form) → AllTell (form_faults out forms)
+  forms_tell [] = tt
+  forms_tell (form ∷ forms) =
+      more_tell (read_form out form.1).1.first (form_faults out forms)
+      (draft_fine out (λ locals declared. subst IsTyped (sym (types locals declared)) (plain_typed declared)) form.1 [] none tt) (forms_tell forms)
+
+pub limits_tell : (out : Outside) (forms : List Form) → AllTell (limits out forms)
 limits_tell out [] = tt
 limits_tell out (form ∷ forms) =
-    or_tells (limit_of form.0 (list_any is_wide (read_form out form.1).0)) (first_limit out forms)
-    (limit_tells form.0 (list_any is_wide (read_form out form.1).0)) (limits_tell out forms)
+    let first = (read_form out form.1).1.first in
+    let wide = list_any is_wide (read_form out form.1).0 in
+    more_tell (limit_by form.0 first wide) (limits out forms) (limit_tells form.0 first wide) (limits_tell out forms)

@@ -1,11 +1,9 @@
--- What the forms of a file are read as.
-use Rattle.std.specs.Prelude.{ℕ, List, [], ◌∷◌, ◌++◌, Option, Some, None, if◌then◌else◌}
+-- What the forms of files are read as.
+use Rattle.std.specs.Prelude.{List, [], ◌∷◌, ◌++◌, Option, Some, None}
 use Rattle.dy_base.specs.declared.kind.Kind.{Kind}
-use Rattle.dy_base.specs.declared.kind.Kind.TheVariants.{Syntax, TooDeep, Redefined}
+use Rattle.dy_base.specs.declared.kind.Kind.TheVariants.{Syntax, TooDeep}
 use Rattle.dy_base.specs.declared.fault.Fault.{Fault}
 use Rattle.dy_base.specs.declared.fault.Place.{Place}
-use Rattle.dy_tree.specs.declared.token.Token.{Token}
-use Rattle.dy_tree.specs.declared.words.Words.{Words}
 use Rattle.dy_tree.specs.Fragments.{SeenFragment}
 use Rattle.dy_rules.specs.Forms.{FormTree}
 use Rattle.dy_rules.specs.Parsing.{Parsed, accepted, too_deep, no_form, parsed}
@@ -16,19 +14,11 @@ use Rattle.dy_term.specs.Rows.{CoreDraft}
 use Rattle.dy_surface.specs.Forms.{draft_of}
 use Rattle.dy_library_rows.specs.Libraries.{Form, or_fault}
 use Rattle.dy_verdict.specs.Pieces.{Piece, place_of}
-use Rattle.dy_verdict.specs.Definitions.{Taken, imported, with_all, names_in, comes_early}
 
--- a fault that shows these texts, whose subject is written later
-abbrev pub fault_with : Kind → Place → List (List ℕ) → Fault
-fault_with kind place shown =
-    record { kind = kind; library = []; place = Some place; shown = shown; numbers = [] }
-
-abbrev pub syntax_at : Place → Fault
-syntax_at place = fault_with Syntax place []
-
--- a name that is defined again
-abbrev pub redefined_at : Place → List ℕ → Fault
-redefined_at place name = fault_with Redefined place (name ∷ [])
+-- a fault at a place, whose subject is written later and which shows nothing
+abbrev pub fault_at : Kind → Place → Fault
+fault_at kind place =
+    record { kind = kind; library = []; place = Some place; shown = []; numbers = [] }
 
 -- what fragments are read as: a form in the core, or a fault of this kind
 pub data Reading : Type 0 where
@@ -53,29 +43,18 @@ abbrev pub form_in : Place → Reading → List Form
 form_in place (fits draft) = (place, draft) ∷ []
 form_in place (faulty kind) = []
 
-abbrev pub names_read : Reading → List Token
-names_read (fits draft) = names_in draft
-names_read (faulty kind) = []
+-- It is refused where it begins.
+abbrev pub fault_in : Place → Reading → Option Fault
+fault_in place (fits draft) = None
+fault_in place (faulty kind) = Some (fault_at kind place)
 
-module _ (words : Words) where
-  -- A form that comes early is refused where it begins.
-  abbrev pub fault_in : Taken → Place → Reading → Option Fault
-  fault_in taken place (fits draft) =
-      if comes_early words taken draft then Some (syntax_at place) else None
-  fault_in taken place (faulty kind) = Some (fault_with kind place [])
+-- the fault of the first piece that is refused
+abbrev pub first_refused : List Piece → Option Fault
+first_refused [] = None
+first_refused (piece ∷ pieces) =
+    or_fault (fault_in (place_of piece) (reading piece.fragments)) (first_refused pieces)
 
-  -- the fault of the first piece that is refused, where these names are taken in front of all
-  abbrev pub refused_from : Taken → List Piece → Option Fault
-  refused_from taken [] = None
-  refused_from taken (piece ∷ pieces) =
-      or_fault (fault_in taken (place_of piece) (reading piece.fragments))
-      (refused_from (with_all (names_read (reading piece.fragments)) taken) pieces)
-
-  -- the fault of the first piece of a file that is refused
-  abbrev pub first_refused : List Piece → Option Fault
-  first_refused pieces = refused_from imported pieces
-
--- the forms of a file, each with the place where it begins
+-- the forms, each with the place where it begins
 abbrev pub forms_of : List Piece → List Form
 forms_of [] = []
 forms_of (piece ∷ pieces) = form_in (place_of piece) (reading piece.fragments) ++ forms_of pieces

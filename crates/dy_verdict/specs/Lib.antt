@@ -1,9 +1,5 @@
-pub mod Words
 pub mod Pieces
-pub mod Definitions
 pub mod Forms
-pub mod Files
-pub mod Library
 pub mod Readings
-pub mod Seen
+pub mod Trees
 pub mod Verdicts

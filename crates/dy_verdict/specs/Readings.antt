@@ -1,10 +1,9 @@
--- What the reading of a file's forms answers.
+-- What the reading of forms answers.
 use Rattle.std.specs.Prelude.{◌≡◌, List, map, Some, None, Result, Ok, Err}
 use Rattle.std.specs.Global.{Vec}
 use Rattle.dy_base.specs.declared.fault.Place.{Place}
 use Rattle.dy_base.specs.declared.fault.Refusal.{Refusal}
 use Rattle.dy_base.specs.declared.fault.Refusal.TheVariants as refusals
-use Rattle.dy_tree.specs.declared.words.Words.{Words}
 use Rattle.dy_term.specs.declared.draft.Draft.{Draft}
 use Rattle.dy_term.specs.Rows.{seen_draft}
 use Rattle.dy_library_rows.specs.Libraries.{seen_form}
@@ -24,8 +23,8 @@ Tells refusals.Memory reading = ⊥
 
 -- The forms where no piece is refused, and else the first fault. Want of memory may be answered at
 -- any time.
-abbrev pub AreForms : Words → List Piece → Result (Vec (Place × Draft)) Refusal → Type 0
-AreForms words pieces (Ok forms) =
-    (first_refused words pieces ≡ None) × (map seen_form forms.items ≡ forms_of pieces)
-AreForms words pieces (Err (refusals.Fault fault)) = first_refused words pieces ≡ Some fault
-AreForms words pieces (Err refusals.Memory) = Unit {0}
+abbrev pub AreForms : List Piece → Result (Vec (Place × Draft)) Refusal → Type 0
+AreForms pieces (Ok forms) =
+    (first_refused pieces ≡ None) × (map seen_form forms.items ≡ forms_of pieces)
+AreForms pieces (Err (refusals.Fault fault)) = first_refused pieces ≡ Some fault
+AreForms pieces (Err refusals.Memory) = Unit {0}

@@ -1,29 +1,25 @@
--- What two source files come to (own in the order of faults).
-use Rattle.std.specs.Prelude.{◌≡◌, ◌≢◌, ◌≤◌, ◌⊎◌, ℕ, Bool, true, false, List, [], ◌∷◌}
-use Rattle.std.specs.Prelude.{Option, Some, None, Result, Ok, Err}
-use Rattle.std.specs.Str.{bytes_eq}
+-- What the source files of a library come to (own in the order of faults).
+use Rattle.std.specs.Prelude.{◌≡◌, ◌≢◌, ◌⊎◌, ℕ, List, [], ◌∷◌, map, flat_map, codes, Option}
+use Rattle.std.specs.Prelude.{Some, None, Result, Ok, Err}
 use Rattle.dy_base.specs.declared.kind.Kind.TheVariants.{NoFile}
-use Rattle.dy_base.specs.declared.fault.Place.{Place}
+use Rattle.dy_base.specs.declared.exports.Exports.{Exports}
 use Rattle.dy_base.specs.declared.fault.Fault.{Fault}
 use Rattle.dy_base.specs.declared.fault.Refusal.{Refusal}
 use Rattle.dy_base.specs.declared.fault.Refusal.TheVariants as refusals
-use Rattle.dy_tree.specs.declared.token.Token.{Token}
-use Rattle.dy_tree.specs.declared.words.Words.{Words}
-use Rattle.dy_tree.specs.Fragments.{SeenFragment}
 use Rattle.dy_lexer.specs.declared.source.Source.{Source}
-use Rattle.dy_fragment.specs.Groups.{Grouped, depth}
-use Rattle.dy_fragment.specs.Faults.{Refused}
 use Rattle.dy_term.specs.declared.rows.LibraryRow.{LibraryRow}
+use Rattle.dy_prims.specs.Rows.{dylan_row, io_row}
+use Rattle.dy_built_in_exports.specs.Names.{exports_of}
 use Rattle.dy_library_rows.specs.Libraries.{Form}
-use Rattle.dy_assembly.specs.Libraries.{wrong_with, own_library}
-use Rattle.dy_verdict.specs.declared.lexing.Lexed.{Lexed}
-use Rattle.dy_verdict.specs.declared.lexing.Lexed.TheVariants.{Read, Faulty}
-use Rattle.dy_verdict.specs.Words.{words}
-use Rattle.dy_verdict.specs.Pieces.{pieces_of}
-use Rattle.dy_verdict.specs.Forms.{syntax_at, redefined_at, first_refused, forms_of}
-use Rattle.dy_verdict.specs.Files as files
-use Rattle.dy_verdict.specs.Files.{Lexes}
-use Rattle.dy_verdict.specs.Library.{is_library, is_taken}
+use Rattle.dy_assembly.specs.Libraries.{own_heading}
+use Rattle.dy_library_modules.specs.Texts.{RefusesTexts, GivesSources}
+use Rattle.dy_library_modules.specs.Words.{words}
+use Rattle.dy_library_modules.specs.Modules.{RefusesModules, GivesModules}
+use Rattle.dy_library_modules.specs.declared.own_modules.LibraryModules.{LibraryModules}
+use Rattle.dy_library_names.specs.Named.{Reading, IsFirstFault, library_from}
+use Rattle.dy_verdict.specs.Pieces.{pieces_of, Piece}
+use Rattle.dy_verdict.specs.Forms.{first_refused, forms_of}
+use Rattle.dy_verdict.specs.Trees.{Trees, form_tokens, AreGrouped}
 
 -- the first fault, or the library
 pub data Verdict : Type 0 where
@@ -34,63 +30,53 @@ abbrev pub verdict_by : Option Fault → LibraryRow → Verdict
 verdict_by (Some fault) library = refused fault
 verdict_by None library = accepted library
 
--- The verdict on forms that are read: what is wrong with their names, then with their sizes, else
--- the library that they are.
-abbrev pub forms_verdict : List ℕ → List Form → Verdict
-forms_verdict library forms = verdict_by (wrong_with forms) (own_library library forms)
+-- what the libraries that are built in export, which stand in front of a program's own
+abbrev pub built_in : List Exports
+built_in = exports_of 0 (codes "dylan") (codes "dylan") dylan_row
+    ∷ exports_of 1 (codes "io") (codes "format-out") io_row ∷ []
 
--- the verdict on the trees of a file: its first form that is refused, else that on its forms
-abbrev pub read_verdict : Option Fault → Verdict → Verdict
-read_verdict (Some fault) verdict = refused fault
-read_verdict None verdict = verdict
+module _ (library : List ℕ) where
+  -- the first fault of the forms' names or sizes, else the library that they are
+  abbrev pub JudgesForms : LibraryModules → List Form → Verdict → Type 0
+  JudgesForms modules forms verdict =
+      let heading = own_heading library in
+      (r : Reading modules.table heading.number forms) × (first : Option Fault)
+      × IsFirstFault modules.table heading.number words.items modules.doubled forms r first
+      × (verdict ≡ verdict_by first (library_from heading r.out forms))
 
-abbrev pub trees_verdict : List ℕ → Words → List SeenFragment → Verdict
-trees_verdict library known trees =
-    read_verdict (first_refused known (pieces_of trees))
-    (forms_verdict library (forms_of (pieces_of trees)))
+  -- the first form that is refused, else the verdict on the forms
+  abbrev pub JudgesRead : LibraryModules → Option Fault → List Form → Verdict → Type 0
+  JudgesRead modules (Some fault) forms verdict = verdict ≡ refused fault
+  JudgesRead modules None forms verdict = JudgesForms modules forms verdict
 
--- tokens are refused with the first fault of their groups, or their trees are judged
-abbrev pub JudgesTokens : List ℕ → List Token → Verdict → Type 0
-JudgesTokens library tokens verdict =
-    ((fault : Fault) × Refused 200 words tokens fault × (verdict ≡ refused fault))
-    ⊎ ((trees : List SeenFragment) × Grouped words tokens trees × (depth trees ≤ 200)
-    × (verdict ≡ trees_verdict library words trees))
+  abbrev pub JudgesPieces : LibraryModules → List Piece → Verdict → Type 0
+  JudgesPieces modules pieces verdict =
+      JudgesRead modules (first_refused pieces) (forms_of pieces) verdict
 
--- where the first token of a file stands, or its begin where it has none
-abbrev pub first_place : ℕ → List Token → Place
-first_place file [] = record { file = file; offset = 0 }
-first_place file (token ∷ tokens) = token.place
+  -- the first fault of the groups of files, else the verdict on their forms
+  abbrev pub JudgesTrees : LibraryModules → Trees → Verdict → Type 0
+  JudgesTrees modules (Err fault) verdict = verdict ≡ refused fault
+  JudgesTrees modules (Ok trees) verdict = JudgesPieces modules (flat_map pieces_of trees) verdict
 
--- By whether a library that is built in has the name: then it is a second one of that name, at the
--- first token of its definition.
-abbrev pub JudgesNamed : Bool → List ℕ → Source → Source → Verdict → Type 0
-JudgesNamed true library first second verdict =
-    verdict ≡ refused (redefined_at (first_place 0 first.tokens) library)
-JudgesNamed false library first second verdict = JudgesTokens library second.tokens verdict
+  abbrev pub JudgesGroups : LibraryModules → List Source → Verdict → Type 0
+  JudgesGroups modules sources verdict = (trees : Trees)
+      × AreGrouped words (map (form_tokens modules.names) sources) trees
+      × JudgesTrees modules trees verdict
 
--- by whether the first file defines the library, and whether the second is of its module
-abbrev pub JudgesBoth : Bool → Bool → List ℕ → Source → Source → Verdict → Type 0
-JudgesBoth false same library first second verdict =
-    verdict ≡ refused (syntax_at (first_place 0 first.tokens))
-JudgesBoth true false library first second verdict =
-    verdict ≡ refused (syntax_at (record { file = 1; offset = 0 }))
-JudgesBoth true true library first second verdict =
-    JudgesNamed (is_taken library) library first second verdict
+  -- the first fault of the library's modules, else the verdict on the files of these modules
+  abbrev pub JudgesSources : List Source → Verdict → Type 0
+  JudgesSources sources verdict =
+      ((fault : Fault) × RefusesModules words library sources built_in fault
+      × (verdict ≡ refused fault))
+      ⊎ ((modules : LibraryModules) × GivesModules words library sources built_in modules
+      × JudgesGroups modules sources verdict)
 
-abbrev pub JudgesSources : List ℕ → Source → Source → Verdict → Type 0
-JudgesSources library first second verdict =
-    JudgesBoth (is_library library first)
-    (bytes_eq second.«module» library) library first second verdict
-
-abbrev pub JudgesFiles : List ℕ → Lexed → Lexed → Verdict → Type 0
-JudgesFiles library (Faulty fault) other verdict = verdict ≡ refused (files.first_fault fault other)
-JudgesFiles library (Read first) (Faulty fault) verdict = verdict ≡ refused fault
-JudgesFiles library (Read first) (Read second) verdict = JudgesSources library first second verdict
-
--- what the two files of a library come to
-abbrev pub IsVerdict : List ℕ → List ℕ → List ℕ → Verdict → Type 0
-IsVerdict library first second verdict = (a : Lexed) × (b : Lexed) × Lexes 0 first a
-    × Lexes 1 second b × JudgesFiles library a b verdict
+  -- What the files of a library come to: the first fault of their texts, else the verdict on what
+  -- they hold.
+  abbrev pub IsVerdict : List (List ℕ) → Verdict → Type 0
+  IsVerdict texts verdict =
+      ((fault : Fault) × RefusesTexts texts fault × (verdict ≡ refused fault))
+      ⊎ ((sources : List Source) × GivesSources texts sources × JudgesSources sources verdict)
 
 -- what a call gave is judged so; want of memory says nothing
 abbrev pub Judged : (Verdict → Type 0) → Result LibraryRow Refusal → Type 0

@@ -1,4 +1,4 @@
-//! The forms of a file, read.
+//! The forms of files, read.
 
 ghost use Rattle.std.specs.Prelude.{◌≡◌, Ok, Err, map, IfOk};
 ghost use Rattle.dy_tree.specs.Fragments.{seen_fragments};
@@ -9,16 +9,14 @@ ghost use Rattle.dy_verdict.specs.Pieces.{seen_piece};
 ghost use Rattle.dy_verdict.specs.Forms.{form_reading, reading};
 ghost use Rattle.dy_verdict.specs.Readings.{seen_reading, Tells, AreForms};
 
-use crate::definitions::comes_early;
-use crate::faults::{fault_at, syntax_at};
+use crate::faults::fault_at;
 use crate::pieces::{Piece, place_of};
-use crate::taken::TakenNames;
 use dy_base::{Kind, Place, Refusal};
 use dy_constructs::absent_construct;
 use dy_reader::parse;
 use dy_surface::to_core;
 use dy_term::Draft;
-use dy_tree::{Form, Fragment, Words};
+use dy_tree::{Form, Fragment};
 use std::alloc::{AllocError, Global};
 
 /// What the fragments of a form are read as.
@@ -62,26 +60,16 @@ fn read_form(alloc: Global, fragments: &Vec<Fragment>) -> Result<Reading, AllocE
     }
 }
 
-/// The forms of a file, each with the place where it begins; or the fault of the first piece that
-/// is refused, since it is no form or comes early. Each piece is given back when it is read.
-pub(crate) fn forms_of(
-    alloc: Global,
-    words: &Words,
-    pieces: Vec<Piece>,
-) -> Result<Vec<(Place, Draft)>, Refusal>
-    ensures { AreForms words.now (map seen_piece pieces.items) result }
+/// The forms, each with the place where it begins; or the fault of the first piece that is refused,
+/// since it is no form that runs. Each piece is given back when it is read.
+pub(crate) fn forms_of(alloc: Global, pieces: Vec<Piece>) -> Result<Vec<(Place, Draft)>, Refusal>
+    ensures { AreForms (map seen_piece pieces.items) result }
 {
-    let mut taken = TakenNames::new(alloc)?;
     let mut forms = Vec::new(alloc);
     for piece in pieces {
         let place = place_of(&piece);
         match read_form(alloc, &piece.fragments)? {
-            Reading::Fits(draft) => {
-                if comes_early(alloc, words, &draft, &mut taken)? {
-                    return Err(Refusal::Fault(syntax_at(alloc, place)));
-                }
-                forms.push((place, draft))?;
-            }
+            Reading::Fits(draft) => forms.push((place, draft))?,
             Reading::Faulty(kind) => return Err(Refusal::Fault(fault_at(alloc, kind, place))),
         }
     }

@@ -1,10 +1,11 @@
 //! The forms of a file, cut at its semicolons.
 
-ghost use Rattle.std.specs.Prelude.{◌≡◌, IfOk, map};
+ghost use Rattle.std.specs.Prelude.{◌≡◌, ◌++◌, IfOk, OnOk, map, flat_map};
 ghost use Rattle.dy_tree.specs.Fragments.{seen_fragment, seen_fragments};
 ghost use Rattle.dy_fragment.specs.Words.{is_semicolon};
 ghost use Rattle.dy_reader.specs.Answers as parser;
 ghost use Rattle.dy_verdict.specs.Pieces.{semicolon_of, seen_piece, place_of, pieces_of};
+ghost use Rattle.dy_verdict.specs.Trees.{seen_file};
 
 use dy_base::Place;
 use dy_tree::{Fragment, Token};
@@ -19,7 +20,7 @@ pub(crate) struct Piece {
 }
 
 /// Whether a token is a semicolon.
-pub(crate) fn is_semicolon(token: &Token) -> bool
+fn is_semicolon(token: &Token) -> bool
     ensures { result ≡ is_semicolon token.now }
 {
     token.is_sign(b";")
@@ -66,7 +67,7 @@ pub(crate) fn place_of(piece: &Piece) -> Place
 }
 
 /// The forms of a file. Where nothing stands behind the last semicolon there is none.
-pub(crate) fn pieces_of(alloc: Global, fragments: Vec<Fragment>) -> Result<Vec<Piece>, AllocError>
+fn pieces_of(alloc: Global, fragments: Vec<Fragment>) -> Result<Vec<Piece>, AllocError>
     ensures { IfOk result (λ pieces. map seen_piece pieces.items
         ≡ pieces_of (seen_fragments fragments.items)) }
 {
@@ -90,6 +91,32 @@ pub(crate) fn pieces_of(alloc: Global, fragments: Vec<Fragment>) -> Result<Vec<P
             fragments: current,
             end: None,
         })?;
+    }
+    Ok(pieces)
+}
+
+/// Adds pieces behind others.
+fn append(pieces: &mut Vec<Piece>, more: Vec<Piece>) -> Result<(), AllocError>
+    ensures { OnOk result (pieces.new.items ≡ pieces.old.items ++ more.items) }
+{
+    for piece in more {
+        pieces.push(piece)?;
+    }
+    Ok(())
+}
+
+/// The forms of files, one file after the other.
+pub(crate) fn pieces_of_files(
+    alloc: Global,
+    files: Vec<Vec<Fragment>>,
+) -> Result<Vec<Piece>, AllocError>
+    ensures { IfOk result (λ pieces. map seen_piece pieces.items
+        ≡ flat_map pieces_of (map seen_file files.items)) }
+{
+    let mut pieces = Vec::new(alloc);
+    for file in files {
+        let more = pieces_of(alloc, file)?;
+        append(&mut pieces, more)?;
     }
     Ok(pieces)
 }

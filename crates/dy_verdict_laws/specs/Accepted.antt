@@ -7,18 +7,18 @@ use Rattle.dy_lowering_whole.specs.Lowered.{IsLowered}
 use Rattle.dy_assembly.specs.Libraries.{program_with}
 use Rattle.dy_verdict.specs.Verdicts.{Verdict, accepted, IsVerdict}
 
--- Two files have one verdict.
+-- The files of a library have one verdict.
 abbrev pub VerdictsAreOne : Type 0
-VerdictsAreOne = (library first second : List ℕ) (a b : Verdict) → IsVerdict library first second a
-    → IsVerdict library first second b → a ≡ b
+VerdictsAreOne = (library : List ℕ) (texts : List (List ℕ)) (a b : Verdict)
+    → IsVerdict library texts a → IsVerdict library texts b → a ≡ b
 
--- The program of a library that two files were judged to be is in scope and lowered.
+-- The program of a library that files were judged to be is in scope and lowered.
 abbrev pub AcceptedAreLowered : Type 0
-AcceptedAreLowered = (library first second : List ℕ) (row : LibraryRow)
-    → IsVerdict library first second (accepted row)
+AcceptedAreLowered = (library : List ℕ) (texts : List (List ℕ)) (row : LibraryRow)
+    → IsVerdict library texts (accepted row)
     → IsScoped (program_with row) × IsLowered (program_with row)
 
 -- With every fuel its code behaves as the program.
 abbrev pub AcceptedBehave : Type 0
-AcceptedBehave = (library first second : List ℕ) (row : LibraryRow) (fuel : ℕ)
-    → IsVerdict library first second (accepted row) → Behaves (program_with row) fuel
+AcceptedBehave = (library : List ℕ) (texts : List (List ℕ)) (row : LibraryRow) (fuel : ℕ)
+    → IsVerdict library texts (accepted row) → Behaves (program_with row) fuel

@@ -3,9 +3,9 @@
 ghost use Rattle.dy_verdict_laws.specs.Accepted.{VerdictsAreOne, AcceptedAreLowered};
 ghost use Rattle.dy_verdict_laws.specs.Accepted.{AcceptedBehave};
 
-/// What holds of the verdicts on every two files.
+/// What holds of the verdicts on the files of libraries.
 pub fn verdict_laws()
-    // No two files have two verdicts.
+    // No files have two verdicts.
     ensures one { VerdictsAreOne }
     // The program of a library that is accepted is in scope, and of kinds that are lowered.
     ensures lowered { AcceptedAreLowered }

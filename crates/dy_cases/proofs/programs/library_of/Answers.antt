@@ -3,4 +3,4 @@ use Rattle.dy_cases.proofs.programs.library_of.Goals as goal
 
 pub returns : goal.returns
 returns c =
-    if_accepted c.args.name.now c.args.first.now c.args.second.now c.read_sources.result c.read_sources.ensures.verdict
+    if_accepted c.args.name.now c.args.texts.now c.read_sources.result c.read_sources.ensures.verdict

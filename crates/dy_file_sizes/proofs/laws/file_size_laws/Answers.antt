@@ -4,7 +4,7 @@ use Rattle.dy_file_sizes.proofs.Tokens.{tokens_few, groups_small}
 use Rattle.dy_file_sizes.proofs.Forms.{drafts_small}
 use Rattle.dy_file_sizes.proofs.Terms.{term_small}
 use Rattle.dy_file_sizes.proofs.Rows.{draft_small}
-use Rattle.dy_file_sizes.proofs.Libraries.{libraries_small, files_small}
+use Rattle.dy_file_sizes.proofs.Libraries.{libraries_small, parts_small, files_small, largest_small}
 use Rattle.dy_file_sizes.proofs.laws.file_size_laws.Goals as goal
 
 pub returns : goal.returns
@@ -15,5 +15,7 @@ returns c = record {
   terms = term_small;
   rows = λ out draft. draft_small out draft [] none;
   libraries = libraries_small;
+  parts = parts_small;
   files = files_small;
+  largest = largest_small;
 }

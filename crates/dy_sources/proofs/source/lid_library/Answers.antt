@@ -1,8 +1,8 @@
-use Rattle.dy_sources.proofs.Judging.{lid_refused}
+use Rattle.std.proofs.Common.{arith}
+use Rattle.dy_lid_files.proofs.Agreement.{names_in_form}
 use Rattle.dy_sources.proofs.source.lid_library.Goals as goal
 
-pub returns-in_ok-why-in-Err-Fault-clause-verdict : goal.returns-in_ok-why-in-Err-Fault-clause-verdict
-returns-in_ok-why-in-Err-Fault-clause-verdict g c = λ held told.
-    let fault = rw c.in-Err-Fault.field-0-is at c.in-Err-Fault.ensures.reading in
-    lid_refused held c.args.lid.now c.args.text.now c.as_bytes-in-Err-Fault.result.now c.as_bytes.result.now c.in-Err-Fault.fault c.in_ok-why-in-Err-Fault.why
-    fault c.in_ok-why-in-Err-Fault.ensures c.as_bytes-in-Err-Fault.ensures.value c.as_bytes.ensures.value
+pub form_library-requires-clause-few : goal.form_library-requires-clause-few
+form_library-requires-clause-few g c = λ found is.
+    let same = names_in_form c.args.text.now found c.named_files.result is c.named_files.ensures in
+    omega (arith, c.if-named_files-le-FILES_LIMIT.true)

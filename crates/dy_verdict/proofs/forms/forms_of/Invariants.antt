@@ -3,13 +3,10 @@ use Rattle.std.specs.Prelude.{None}
 use Rattle.dy_library_rows.specs.Libraries.{seen_form}
 use Rattle.dy_verdict.specs.Pieces.{seen_piece}
 use Rattle.dy_verdict.specs.Forms.{first_refused, forms_of}
-use Rattle.dy_verdict.specs.Seen.{taken_in}
-use Rattle.dy_verdict.proofs.PiecesRead.{held_names}
 use Rattle.dy_verdict.proofs.forms.forms_of.Given as goal
 
 abbrev pub invariant-loop-piece : goal.invariant-loop-piece
 invariant-loop-piece l = record {
-  fine : first_refused l.words (map seen_piece l.yielded) ≡ None;
+  fine : first_refused (map seen_piece l.yielded) ≡ None;
   read : map seen_form l.forms.items ≡ forms_of (map seen_piece l.yielded);
-  taken : taken_in l.taken ≡ held_names l.yielded;
 }

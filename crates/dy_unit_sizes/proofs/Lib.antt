@@ -1,0 +1,7 @@
+pub mod Bodies
+pub mod Closing
+pub mod Items
+pub mod Libraries
+pub mod Looping
+pub mod Measuring
+pub mod Pieces

@@ -1,0 +1,6 @@
+library: calendar
+files: library
+ whole-numbers
+ date-rules
+ sheets
+ calendar
