@@ -1,0 +1,11 @@
+pub mod Lists
+pub mod Rows
+pub mod Effects
+pub mod Calling
+pub mod Steps
+pub mod Classes
+pub mod Printing
+pub mod Directives
+pub mod Methods
+pub mod BuiltIn
+pub mod Alike
