@@ -1,4 +1,4 @@
--- The names of generic functions of a program: each is one of `dylan`, or has a number of the
+-- The names of generic functions of an own library: each is one of `dylan`, or has a number of the
 -- program's own library, and each number below the count of these has a name that a form defines.
 use Rattle.std.proofs.Common.{◌≡◌, ◌⊎◌, inl, inr, ℕ, suc, ◌+◌, ◌<◌, ◌≤◌, Bool, true, false, ◌&&◌, cond, List, [], ◌∷◌, ◌++◌, length, map, Option, Some, None, refl, sym, ap, ◌∙◌, subst, arith}
 use Rattle.std.specs.Prelude.{nat_eq, nat_lt}
@@ -27,24 +27,24 @@ IsByText table = (a b : Token) → a.module ≡ b.module → a.text ≡ b.text �
 abbrev pub IsOfDylan : BindingId → Type 0
 IsOfDylan b = (b.at.library ≡ 0) × (b.at.row < length dylan_row.generics)
 
--- one of so many of the program's own library
-abbrev pub IsOwn : ℕ → BindingId → Type 0
-IsOwn count b = (b.at.library ≡ 2) × (b.at.row < count)
+-- one of so many of the library of this number
+abbrev pub IsOwn : (library count : ℕ) → BindingId → Type 0
+IsOwn library count b = (b.at.library ≡ library) × (b.at.row < count)
 
-abbrev pub own : ℕ → BindingId
-own number = record { what = whats.Generic; at = record { library = 2; row = number } }
+abbrev pub own : (library number : ℕ) → BindingId
+own library number = record { what = whats.Generic; at = record { library = library; row = number } }
 
--- a name for which a test holds has this number
-pub record IsNamed (Test : Token → Type 0) (table : Table) (number : ℕ) : Type 0 where
+-- a name for which a test holds has this number in the library
+pub record IsNamed (Test : Token → Type 0) (library : ℕ) (table : Table) (number : ℕ) : Type 0 where
   pub token : Token
   pub tested : Test token
-  pub meant : table token ≡ Some (own number)
+  pub meant : table token ≡ Some (own library number)
 
 -- what holds of the names so far
 pub record AreWhole (Test : Token → Type 0) (names : Names) : Type 0 where
   pub by_text : IsByText names.0
-  pub rows : (token : Token) (b : BindingId) → names.0 token ≡ Some b → b.what ≡ whats.Generic → IsOfDylan b ⊎ IsOwn names.1.generics b
-  pub each : (number : ℕ) → number < names.1.generics → IsNamed Test names.0 number
+  pub rows : (token : Token) (b : BindingId) → names.0 token ≡ Some b → b.what ≡ whats.Generic → IsOfDylan b ⊎ IsOwn 2 names.1.generics b
+  pub each : (number : ℕ) → number < names.1.generics → IsNamed Test 2 names.0 number
 
 same_Some : {A : Type 0} (x y : A) → Some x ≡ Some y → x ≡ y
 same_Some x y e = cc
@@ -180,35 +180,35 @@ module _ (Test : Token → Type 0) where
   abbrev pub AreTested : List (Token × What) → Type 0
   AreTested pairs = Every (λ (pair : Token × What). pair.1 ≡ whats.Generic → Test pair.0) pairs
 
-  kept_named : (owner : BindingId) (table : Table) (token : Token) (number : ℕ) → IsByText table → table token ≡ None → IsNamed Test table number → IsNamed Test (bound token.module token.text owner table) number
-  kept_named owner table token number same none named = record { token = named.token; tested = named.tested; meant = stays owner table token named.token (own number) same none named.meant }
+  kept_named : (owner : BindingId) (table : Table) (token : Token) (number : ℕ) → IsByText table → table token ≡ None → IsNamed Test 2 table number → IsNamed Test 2 (bound token.module token.text owner table) number
+  kept_named owner table token number same none named = record { token = named.token; tested = named.tested; meant = stays owner table token named.token (own 2 number) same none named.meant }
 
   one_more : (token : Token) (names : Names) → names.0 token ≡ None → Test token → AreWhole Test names
-      → AreWhole Test (bound token.module token.text (own names.1.generics) names.0, counted whats.Generic names.1)
+      → AreWhole Test (bound token.module token.text (own 2 names.1.generics) names.0, counted whats.Generic names.1)
   one_more token names none tested h =
       let count = names.1.generics in
-      let table = bound token.module token.text (own count) names.0 in
-      let row_of : (other : Token) (b : BindingId) → b.what ≡ whats.Generic → (b ≡ own count) ⊎ (names.0 other ≡ Some b) → IsOfDylan b ⊎ IsOwn (count + 1) b = λ other b is found. placed other b is found in
-      let numbered : (number : ℕ) → number < count + 1 → IsNamed Test table number = λ number low. named number low (nat_lt number count) refl in
+      let table = bound token.module token.text (own 2 count) names.0 in
+      let row_of : (other : Token) (b : BindingId) → b.what ≡ whats.Generic → (b ≡ own 2 count) ⊎ (names.0 other ≡ Some b) → IsOfDylan b ⊎ IsOwn 2 (count + 1) b = λ other b is found. placed other b is found in
+      let numbered : (number : ℕ) → number < count + 1 → IsNamed Test 2 table number = λ number low. named number low (nat_lt number count) refl in
       record {
-        by_text = bound_by_text token.module token.text (own count) names.0 h.by_text;
-        rows = λ other b e is. row_of other b is (bound_is (is_same token other) (own count) b (names.0 other) e);
+        by_text = bound_by_text token.module token.text (own 2 count) names.0 h.by_text;
+        rows = λ other b e is. row_of other b is (bound_is (is_same token other) (own 2 count) b (names.0 other) e);
         each = numbered;
       }
     where
-      older : (b : BindingId) → IsOfDylan b ⊎ IsOwn names.1.generics b → IsOfDylan b ⊎ IsOwn (names.1.generics + 1) b
+      older : (b : BindingId) → IsOfDylan b ⊎ IsOwn 2 names.1.generics b → IsOfDylan b ⊎ IsOwn 2 (names.1.generics + 1) b
       older b (inl dylan) = inl dylan
       older b (inr own) = let low = own.1 in inr (own.0, omega (arith, low))
 
-      placed : (other : Token) (b : BindingId) → b.what ≡ whats.Generic → (b ≡ own names.1.generics) ⊎ (names.0 other ≡ Some b) → IsOfDylan b ⊎ IsOwn (names.1.generics + 1) b
+      placed : (other : Token) (b : BindingId) → b.what ≡ whats.Generic → (b ≡ own 2 names.1.generics) ⊎ (names.0 other ≡ Some b) → IsOfDylan b ⊎ IsOwn 2 (names.1.generics + 1) b
       placed other b is (inl same) = let row = ap (λ (x : BindingId). x.at.row) same in inr (ap (λ (x : BindingId). x.at.library) same, omega (arith, row))
       placed other b is (inr at) = older b (h.rows other b at is)
 
-      named : (number : ℕ) → number < names.1.generics + 1 → (t : Bool) → nat_lt number names.1.generics ≡ t → IsNamed Test (bound token.module token.text (own names.1.generics) names.0) number
-      named number low true less = kept_named (own names.1.generics) names.0 token number h.by_text none (h.each number (less_of number names.1.generics less))
+      named : (number : ℕ) → number < names.1.generics + 1 → (t : Bool) → nat_lt number names.1.generics ≡ t → IsNamed Test 2 (bound token.module token.text (own 2 names.1.generics) names.0) number
+      named number low true less = kept_named (own 2 names.1.generics) names.0 token number h.by_text none (h.each number (less_of number names.1.generics less))
       named number low false less =
           let last : names.1.generics ≡ number = omega (arith, low, not_less number names.1.generics less) in
-          record { token = token; tested = tested; meant = itself (own names.1.generics) names.0 token ∙ ap (λ (n : ℕ). Some (own n)) last }
+          record { token = token; tested = tested; meant = itself (own 2 names.1.generics) names.0 token ∙ ap (λ (n : ℕ). Some (own 2 n)) last }
 
   other_more : (token : Token) (owner : BindingId) (names : Names) (rows : RowCounts) → (owner.what ≡ whats.Generic → ⊥) → rows.generics ≡ names.1.generics → names.0 token ≡ None → AreWhole Test names
       → AreWhole Test (bound token.module token.text owner names.0, rows)
@@ -218,9 +218,9 @@ module _ (Test : Token → Type 0) where
     each = λ number low. kept_named owner names.0 token number h.by_text none (h.each number (omega (arith, low, same)));
   }
     where
-      placed : (other : Token) (b : BindingId) → b.what ≡ whats.Generic → (b ≡ owner) ⊎ (names.0 other ≡ Some b) → IsOfDylan b ⊎ IsOwn rows.generics b
+      placed : (other : Token) (b : BindingId) → b.what ≡ whats.Generic → (b ≡ owner) ⊎ (names.0 other ≡ Some b) → IsOfDylan b ⊎ IsOwn 2 rows.generics b
       placed other b is (inl e) = absurd (differs (ap (λ (x : BindingId). x.what) (sym e) ∙ is))
-      placed other b is (inr at) = subst (λ (n : ℕ). IsOfDylan b ⊎ IsOwn n b) (sym same) (h.rows other b at is)
+      placed other b is (inr at) = subst (λ (n : ℕ). IsOfDylan b ⊎ IsOwn 2 n b) (sym same) (h.rows other b at is)
 
   with_one : (o : Option BindingId) (token : Token) (w : What) (names : Names) → names.0 token ≡ o → (w ≡ whats.Generic → Test token) → AreWhole Test names → AreWhole Test (with_name_by o token w names)
   with_one (Some b) token w names e tested h = h

@@ -1,5 +1,9 @@
+pub mod Lists
+pub mod BuiltIn
 pub mod Numbered
 pub mod Owners
 pub mod Outsides
 pub mod Offered
+pub mod Behind
+pub mod Carried
 pub mod Named

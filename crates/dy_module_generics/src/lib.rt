@@ -4,4 +4,4 @@
 
 mod laws;
 
-pub use laws::named_laws;
+pub use laws::{behind_laws, named_laws};
