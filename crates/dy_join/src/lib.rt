@@ -3,6 +3,7 @@
 
 mod places;
 mod references;
+mod rows;
 mod types;
 mod units;
 

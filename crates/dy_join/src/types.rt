@@ -23,7 +23,11 @@ fn link_member(places: &Places, member: Member) -> Member
     }
 }
 
-fn link_type(alloc: Global, places: &Places, declared: DyType) -> Result<DyType, AllocError>
+pub(crate) fn link_type(
+    alloc: Global,
+    places: &Places,
+    declared: DyType,
+) -> Result<DyType, AllocError>
     ensures { IfOk result (λ linked. linked ≡ linked_type (placed places.now) declared) }
 {
     let mut members = Items::new(alloc);
@@ -47,7 +51,11 @@ pub(crate) fn link_types(
     Ok(linked)
 }
 
-fn link_params(alloc: Global, places: &Places, params: Params) -> Result<Params, AllocError>
+pub(crate) fn link_params(
+    alloc: Global,
+    places: &Places,
+    params: Params,
+) -> Result<Params, AllocError>
     ensures { IfOk result (λ linked. linked ≡ linked_params (placed places.now) params) }
 {
     Ok(Params {
@@ -73,26 +81,32 @@ pub(crate) fn link_lists(
     Ok(linked)
 }
 
-fn link_rest(
+/// A type, if there is one.
+pub(crate) fn link_held_type(
     alloc: Global,
     places: &Places,
-    rest: Option<DyType>,
+    held: Option<DyType>,
 ) -> Result<Option<DyType>, AllocError>
     ensures { IfOk result (λ linked. linked
-        ≡ option_map (linked_type (placed places.now)) rest) }
+        ≡ option_map (linked_type (placed places.now)) held) }
 {
-    match rest {
+    match held {
         None => Ok(None),
         Some(declared) => Ok(Some(link_type(alloc, places, declared)?)),
     }
 }
 
-fn link_values(alloc: Global, places: &Places, results: Results) -> Result<Results, AllocError>
+/// The types of the values that are returned.
+pub(crate) fn link_values(
+    alloc: Global,
+    places: &Places,
+    results: Results,
+) -> Result<Results, AllocError>
     ensures { IfOk result (λ linked. linked ≡ linked_results (placed places.now) results) }
 {
     Ok(Results {
         required: link_types(alloc, places, results.required)?,
-        rest: link_rest(alloc, places, results.rest)?,
+        rest: link_held_type(alloc, places, results.rest)?,
     })
 }
 

@@ -3,14 +3,16 @@
 ghost use Rattle.std.specs.Prelude.{◌≡◌, IfOk, map};
 ghost use Rattle.dy_meaning.specs.Numbers.{greatest};
 ghost use Rattle.dy_lowered.specs.Linking.{linked, linked_code, linked_top};
-ghost use Rattle.dy_join.specs.Numbering.{joined, place_by, placed};
+ghost use Rattle.dy_join.specs.Numbering.{joined, joined_row, place_by, placed};
+ghost use Rattle.dy_join.specs.Programs.{joined_program};
 
 use crate::places::{Names, Places};
 use crate::references::{link_bounds, link_names};
+use crate::rows::link_row;
 use crate::types::{link_lists, link_results, link_types};
 use dy_base::Items;
 use dy_code::{Linked, TopCode, Unit, UnitCode};
-use dy_term::Program;
+use dy_term::{LibraryRow, Program};
 use std::alloc::{AllocError, Global};
 
 fn link_top(alloc: Global, places: &Places, top: TopCode) -> Result<TopCode, AllocError>
@@ -57,27 +59,36 @@ fn link_code(alloc: Global, places: &Places, code: UnitCode) -> Result<UnitCode,
     })
 }
 
-/// The code of a unit, where each library of its view is at its place in the program.
-fn link_unit(alloc: Global, names: &Names, unit: Unit) -> Result<UnitCode, AllocError>
-    ensures { IfOk result (λ code. code ≡ joined (place_by names.now) unit) }
+/// The rows and the code of a unit, where each library of its view is at its place in the program.
+fn link_unit(alloc: Global, names: &Names, unit: Unit) -> Result<(LibraryRow, UnitCode), AllocError>
+    ensures rows { IfOk result (λ linked. linked.0 ≡ joined_row (place_by names.now) unit) }
+    ensures code { IfOk result (λ linked. linked.1 ≡ joined (place_by names.now) unit) }
 {
     let places = Places::of(alloc, names, &unit)?;
+    let row = link_row(alloc, &places, unit.row)?;
     let code = link_code(alloc, &places, unit.code)?;
-    Ok(code)
+    Ok((row, code))
 }
 
+/// The rows and the code of each unit.
 fn link_units(
     alloc: Global,
     names: &Names,
-    units: Items<Unit>,
-) -> Result<Items<UnitCode>, AllocError>
-    ensures { IfOk result (λ codes. codes ≡ map (joined (place_by names.now)) units) }
+    units: Vec<Unit>,
+) -> Result<(Items<LibraryRow>, Items<UnitCode>), AllocError>
+    ensures rows { IfOk result (λ linked. linked.0
+        ≡ map (joined_row (place_by names.now)) units.items) }
+    ensures code { IfOk result (λ linked. linked.1
+        ≡ map (joined (place_by names.now)) units.items) }
 {
+    let mut rows = Items::new(alloc);
     let mut codes = Items::new(alloc);
-    for unit in units.into_vec() {
-        codes.push(link_unit(alloc, names, unit)?)?;
+    for unit in units {
+        let (row, code) = link_unit(alloc, names, unit)?;
+        rows.push(row)?;
+        codes.push(code)?;
     }
-    Ok(codes)
+    Ok((rows, codes))
 }
 
 /// The longest stretch of units.
@@ -93,16 +104,16 @@ fn longest(units: &[Unit]) -> u64
     most
 }
 
-/// The program of these rows and of these units, in load order. Code is moved, and references to
-/// rows of libraries are numbered anew. The one error is want of memory.
-pub fn join(alloc: Global, program: Program, units: Items<Unit>) -> Result<Linked, AllocError>
-    ensures { IfOk result (λ joined. joined ≡ linked program units) }
+/// The program of units, in load order: their rows and their code. Both are moved, and references
+/// to rows of libraries are numbered anew. The one error is want of memory.
+pub fn join(alloc: Global, units: Vec<Unit>) -> Result<Linked, AllocError>
+    ensures { IfOk result (λ joined. joined ≡ linked (joined_program units.items) units.items) }
 {
     let names = Names::of(alloc, units.as_slice())?;
     let stretch = longest(units.as_slice());
-    let code = link_units(alloc, &names, units)?;
+    let (libraries, code) = link_units(alloc, &names, units)?;
     Ok(Linked {
-        program,
+        program: Program { libraries },
         code,
         stretch,
     })

@@ -1,4 +1,6 @@
-pub mod Codes
+pub mod Bare
 pub mod Courses
+pub mod Joined
 pub mod Lending
+pub mod Libraries
 pub mod Telling

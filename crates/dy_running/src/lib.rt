@@ -1,8 +1,7 @@
-//! A program of rows is lowered, loaded and run.
+//! Libraries are lowered, and their program is joined, loaded and run.
 #![tactic(auto)]
 
 mod linking;
 mod running;
 
-pub use linking::link_program;
-pub use running::run_program;
+pub use running::run_libraries;

@@ -1,67 +1,53 @@
-//! The code of a program of rows.
+//! The code of libraries.
 
 ghost use Rattle.std.specs.Prelude.{◌≡◌, true, map, IfOk};
 ghost use Rattle.std.specs.List.{list_all};
-ghost use Rattle.dy_term.specs.declared.rows.Program.{Program as Rows};
-ghost use Rattle.dy_meaning.specs.Numbers.{greatest};
-ghost use Rattle.dy_lowered.specs.Units.{lowered};
-ghost use Rattle.dy_lowering_law.specs.Machines.{linked_program};
 ghost use Rattle.dy_lowering_whole.specs.Lowered.{is_library_lowered, IsLowered};
+ghost use Rattle.dy_linked_rows.specs.Programs.{unit_of, units};
+ghost use Rattle.dy_bare_machines.specs.Machines.{linked_without_terms};
+ghost use Rattle.dy_running.specs.Runs.{viewed, program_of, AreApart};
 
 use dy_base::Items;
-use dy_code::{Linked, UnitCode};
-use dy_lower::{Refusal, lower_code};
-use dy_term::{LibraryRow, Program};
+use dy_code::{Library, Linked, Unit};
+use dy_join::join;
+use dy_lower::{Refusal, lower};
+use dy_term::Program;
 use std::alloc::{AllocError, Global};
 
-/// The code of a library of which every part is lowered yet.
-fn code_of(alloc: Global, library: &LibraryRow) -> Result<UnitCode, AllocError>
-    requires { is_library_lowered library.now ≡ true }
-    ensures { IfOk result (λ code. (view : Rows) → code ≡ lowered view library.now) }
+/// The unit of a library of which every part is lowered yet.
+fn lower_library(alloc: Global, library: Library) -> Result<Unit, AllocError>
+    requires { is_library_lowered library.row ≡ true }
+    ensures { IfOk result (λ unit. unit ≡ unit_of (viewed library)) }
 {
-    match lower_code(alloc, library) {
-        Ok(code) => Ok(code),
+    let view = Program {
+        libraries: Items::new(alloc),
+    };
+    match lower(alloc, &view, library) {
+        Ok(unit) => Ok(unit),
         Err(Refusal::Memory) => Err(AllocError),
         Err(Refusal::NotYet) => unreachable!(),
     }
 }
 
-/// The code of libraries, in load order.
-fn codes_of(alloc: Global, libraries: &[LibraryRow]) -> Result<Items<UnitCode>, AllocError>
-    requires { list_all is_library_lowered libraries.now ≡ true }
-    ensures { IfOk result (λ codes. (view : Rows) → codes ≡ map (lowered view) libraries.now) }
+/// The units of libraries.
+fn lower_libraries(alloc: Global, libraries: Vec<Library>) -> Result<Vec<Unit>, AllocError>
+    requires { list_all (λ library. is_library_lowered library.row) libraries.items ≡ true }
+    ensures { IfOk result (λ all. all.items ≡ units (map viewed libraries.items)) }
 {
-    let mut codes = Items::new(alloc);
+    let mut all = Vec::new(alloc);
     for library in libraries {
-        codes.push(code_of(alloc, library)?)?;
+        all.push(lower_library(alloc, library)?)?;
     }
-    Ok(codes)
+    Ok(all)
 }
 
-/// The longest stretch of libraries.
-fn longest(codes: &[UnitCode]) -> u64
-    ensures { result ≡ greatest (map (λ code. code.stretch) codes.now) }
+/// The program of libraries in load order, with their code. Each is lowered in a view of its own,
+/// and then stands without its terms at its place in the program. The one error is want of memory.
+pub(crate) fn link_libraries(alloc: Global, libraries: Vec<Library>) -> Result<Linked, AllocError>
+    requires apart { AreApart libraries.items }
+    requires lowered { IsLowered (program_of libraries.items) }
+    ensures { IfOk result (λ linked. linked ≡ linked_without_terms (program_of libraries.items)) }
 {
-    let mut most = 0;
-    for code in codes {
-        if most < code.stretch {
-            most = code.stretch;
-        }
-    }
-    most
-}
-
-/// A program with the code of its libraries. Its rows name each other by their places in it, so
-/// nothing is numbered anew. The one error is want of memory.
-pub fn link_program(alloc: Global, program: Program) -> Result<Linked, AllocError>
-    requires { IsLowered program }
-    ensures { IfOk result (λ linked. linked ≡ linked_program program) }
-{
-    let code = codes_of(alloc, program.libraries.as_slice())?;
-    let stretch = longest(code.as_slice());
-    Ok(Linked {
-        program,
-        code,
-        stretch,
-    })
+    let units = lower_libraries(alloc, libraries)?;
+    join(alloc, units)
 }

@@ -1,7 +1,7 @@
 use Rattle.std.proofs.Common.{subst}
 use Rattle.dy_lower.specs.declared.refusal.Refusal.{Refusal}
 use Rattle.dy_lower.specs.declared.refusal.Refusal.TheVariants.{Memory, NotYet}
-use Rattle.dy_running.proofs.linking.code_of.Goals as goal
+use Rattle.dy_running.proofs.linking.lower_library.Goals as goal
 
 abbrev Waits : Refusal → Type 0
 Waits Memory = ⊥
