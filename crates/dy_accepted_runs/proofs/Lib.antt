@@ -1,1 +1,9 @@
+pub mod Lists
+pub mod Views
+pub mod Read
+pub mod Known
+pub mod BuiltIn
+pub mod Carried
+pub mod Programs
+pub mod Judged
 pub mod Accepted

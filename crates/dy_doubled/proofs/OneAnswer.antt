@@ -21,5 +21,5 @@ syntax_once place (Err (Fault f)) (Err Memory) p q m n = absurd (n refl)
 syntax_once place (Err (Fault f)) (Err (Fault h)) p q m n = ap (λ x. Err (Fault x)) (p ∙ sym q)
 
 pub one_answer : AnswersAreOne
-one_answer library (Ok forms) used a b p q m n = read_once (redefined_in library forms used) a b p q m n
-one_answer library (Err place) used a b p q m n = syntax_once place a b p q m n
+one_answer library (Ok forms) used given a b p q m n = read_once (redefined_in library forms used given) a b p q m n
+one_answer library (Err place) used given a b p q m n = syntax_once place a b p q m n

@@ -26,9 +26,9 @@ use Rattle.dy_doubled.specs.declared.doubled.TakenNames.{TakenNames}
 abbrev pub is_library : Name → Exports → Bool
 is_library name library = bytes_eq library.library name
 
--- the place of a library among those that are used
+-- the place of the library of a name among others
 abbrev pub place_of : List Exports → Name → Option ℕ
-place_of used name = position (is_library name) used
+place_of others name = position (is_library name) others
 
 abbrev pub with_first : Option Name → List Name → List Name
 with_first None names = names
@@ -92,15 +92,17 @@ doubled_behind imported before (form ∷ forms) = cond (is_doubled imported befo
     (redefined form ∷ doubled_behind imported (before ++ form ∷ []) forms)
     (doubled_behind imported (before ++ form ∷ []) forms)
 
--- a library, at its form, where a used one has its name
+-- a library, at its form, where another one that is given has its name
 abbrev pub library_fault : List Exports → Name → Option Form → Option FaultData
-library_fault used library None = None
-library_fault used library (Some form) =
-    cond (is_some (place_of used library)) (Some (redefined form)) None
+library_fault given library None = None
+library_fault given library (Some form) =
+    cond (is_some (place_of given library)) (Some (redefined form)) None
 
-abbrev pub redefined_in : Name → List Form → List Exports → TakenNames
-redefined_in library forms used = record {
-  library = library_fault used library (first_form (libraries forms));
+-- What is defined though the name is taken: the library, where any other that is given has its
+-- name, and modules, by what is imported of those that are used.
+abbrev pub redefined_in : Name → List Form → (used given : List Exports) → TakenNames
+redefined_in library forms used given = record {
+  library = library_fault given library (first_form (libraries forms));
   modules = doubled_behind (imported_in used (first_form (libraries forms))) [] forms;
 }
 
@@ -116,16 +118,17 @@ IsSyntax place (Ok r) = ⊥
 IsSyntax place (Err (Fault fault)) = fault ≡ syntax_at place
 IsSyntax place (Err Memory) = Unit {0}
 
-abbrev pub IsAnswer : Name → Result (List Form) Place → List Exports → Result TakenNames Refusal
-    → Type 0
-IsAnswer library (Ok forms) used result = IsRead (redefined_in library forms used) result
-IsAnswer library (Err place) used result = IsSyntax place result
+abbrev pub IsAnswer : Name → Result (List Form) Place → (used given : List Exports)
+    → Result TakenNames Refusal → Type 0
+IsAnswer library (Ok forms) used given result =
+    IsRead (redefined_in library forms used given) result
+IsAnswer library (Err place) used given result = IsSyntax place result
 
 -- forms have one answer where memory suffices
 abbrev pub AnswersAreOne : Type 0
-AnswersAreOne = (library : Name) (forms : Result (List Form) Place) (used : List Exports)
-    (a b : Result TakenNames Refusal) → IsAnswer library forms used a
-    → IsAnswer library forms used b → (a ≢ Err Memory) → (b ≢ Err Memory) → a ≡ b
+AnswersAreOne = (library : Name) (forms : Result (List Form) Place) (used given : List Exports)
+    (a b : Result TakenNames Refusal) → IsAnswer library forms used given a
+    → IsAnswer library forms used given b → (a ≢ Err Memory) → (b ≢ Err Memory) → a ≡ b
 
 -- what the code adds row by row
 abbrev pub with_new : List Name → Option Name → List Name

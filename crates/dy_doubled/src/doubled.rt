@@ -19,7 +19,7 @@ use std::alloc::{AllocError, Global};
 /// What a library defines though the name is taken.
 #[derive(Drop)]
 pub struct TakenNames {
-    /// The library itself, where another one has its name.
+    /// The library itself, where another one that is given has its name.
     pub library: Option<Fault>,
     /// Its modules, at each form whose name the library imports or an earlier form has.
     pub modules: Items<Fault>,
@@ -106,19 +106,20 @@ fn imported_by(alloc: Global, used: &[Exports], form: Option<&Form>) -> Result<N
     }
 }
 
+/// The fault of the library, where another that is given has its name.
 fn library_fault(
     alloc: Global,
-    used: &[Exports],
+    given: &[Exports],
     library: &Name,
     form: Option<&Form>,
 ) -> Result<Option<Fault>, AllocError>
-    ensures { IfOk result (λ fault. fault ≡ specs.library_fault used.now library.now
+    ensures { IfOk result (λ fault. fault ≡ specs.library_fault given.now library.now
         (option_map (λ form. form.now) form.entry)) }
 {
     let Some(form) = form else {
         return Ok(None);
     };
-    match place_of(used, library) {
+    match place_of(given, library) {
         Some(_) => Ok(Some(redefined_at(alloc, form)?)),
         None => Ok(None),
     }
@@ -145,12 +146,13 @@ fn redefined_in(
     library: &Name,
     forms: &[Form],
     used: &[Exports],
+    given: &[Exports],
 ) -> Result<TakenNames, AllocError>
     ensures { IfOk result (λ redefined. redefined
-        ≡ specs.redefined_in library.now forms.now used.now) }
+        ≡ specs.redefined_in library.now forms.now used.now given.now) }
 {
     let form = library_form(forms);
-    let library = library_fault(alloc, used, library, form)?;
+    let library = library_fault(alloc, given, library, form)?;
     let modules = doubled(alloc, used, form, forms)?;
     Ok(TakenNames { library, modules })
 }
@@ -158,23 +160,24 @@ fn redefined_in(
 /// What the forms of a library define though the name is taken, as faults `Redefined` (DRM 4,
 /// "Modules" and "Libraries"; own in which form is told). `library`, `forms` and `used` are those
 /// of `graph` of `dy_graph`, which counts the first form of a module, and one of the library in
-/// front of an imported one.
+/// front of an imported one. `given` is what all libraries export that were compiled before it.
 ///
-/// The library itself, at its form, where one of the used ones has its name; this comes behind the
-/// faults of `graph`. And a module, at its form, where the library imports one of its name, or an
-/// earlier form has the name; these are faults of names, in the order of the forms. A refusal is
-/// `Syntax` at the first form that is none of a library or a module, or says that memory did not
-/// suffice.
+/// The library itself, at its form, where one of the given ones has its name, whether it is used or
+/// not; this comes behind the faults of `graph`. And a module, at its form, where the library
+/// imports one of its name from those that are used, or an earlier form has the name; these are
+/// faults of names, in the order of the forms. A refusal is `Syntax` at the first form that is none
+/// of a library or a module, or says that memory did not suffice.
 pub fn redefined(
     alloc: Global,
     library: &Name,
     forms: &Vec<Fragment>,
     used: &Vec<Exports>,
+    given: &[Exports],
 ) -> Result<TakenNames, Refusal>
     ensures { IsAnswer library.now (forms_of (seen_fragments forms.now.items)) used.now.items
-        result }
+        given.now result }
 {
     let forms = read_forms(alloc, forms.as_slice())?;
-    let redefined = redefined_in(alloc, library, forms.as_slice(), used.as_slice())?;
+    let redefined = redefined_in(alloc, library, forms.as_slice(), used.as_slice(), given)?;
     Ok(redefined)
 }

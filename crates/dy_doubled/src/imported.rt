@@ -10,11 +10,12 @@ use dy_module_numbers::use_clause;
 use dy_modules::{NameSet, UseClause, brought};
 use std::alloc::{AllocError, Global};
 
-/// The place of a library among those that are used.
-pub fn place_of(used: &[Exports], name: &Name) -> Option<usize>
-    ensures { result ≡ specs.place_of used.now name.now }
+/// The place of the library of a name among others.
+pub fn place_of(others: &[Exports], name: &Name) -> Option<usize>
+    ensures { result ≡ specs.place_of others.now name.now }
 {
-    used.iter()
+    others
+        .iter()
         .position(|library| library.library.bytes() == name.bytes())
 }
 

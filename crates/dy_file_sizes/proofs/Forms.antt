@@ -21,7 +21,7 @@ use Rattle.dy_desugar.specs.Table.{core_of, first_token, cases_of, assignment_of
 use Rattle.dy_desugar.specs.Table as table
 use Rattle.dy_surface.specs.Forms.{slot_of, init_of, written_init, constant_by, constant_of, initial as initial_top, draft_of}
 use Rattle.dy_surface.specs.TypeConstants.{constant_type}
-use Rattle.dy_file_sizes.specs.Tokens.{tokens_of, tokens_within}
+use Rattle.dy_token_limit.specs.Tokens.{tokens_of, tokens_within}
 use Rattle.dy_file_sizes.specs.Drafts.{size, item_size, maybe_size, methods_size, defaults_size, clauses_size, clause_size, limit_size, test_size, catches_size, init_size, slots_size, top_size, draft_size}
 use Rattle.dy_file_sizes.proofs.Tokens.{join_tokens, row_tokens}
 use Rattle.dy_file_sizes.proofs.Types.{variable_counts, required_counts, target_size, target_counts}

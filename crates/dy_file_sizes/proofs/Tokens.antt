@@ -13,7 +13,8 @@ use Rattle.dy_lexer.specs.Sources.{IsSource}
 use Rattle.dy_fragment.specs.Groups.{Grouped}
 use Rattle.dy_fragment.specs.Leaves.{StandFor, no_tree, token_then, group_then}
 use Rattle.dy_fragment.proofs.Leaves.{all_stand}
-use Rattle.dy_file_sizes.specs.Tokens.{tokens_within, tokens_of, StandIn, no_piece, piece_and}
+use Rattle.dy_token_limit.specs.Tokens.{tokens_within, tokens_of}
+use Rattle.dy_file_sizes.specs.Tokens.{StandIn, no_piece, piece_and}
 
 -- a piece of a text has a byte for its token
 and_few : (t : Option Token) (ts : List Token) → length (and_tokens t ts) ≤ 1 + length ts

@@ -4,7 +4,7 @@ use Rattle.dy_tree.specs.declared.token.Token.{Token}
 use Rattle.dy_tree.specs.Fragments.{SeenFragment, one, row}
 use Rattle.dy_rules.specs.Types.{VariableTree, IsVariable, untyped, typed, Bind, last_bound, rest_bound, more_bound, TargetTree, one_target, several, IsTarget, by_variable, by_nothing, by_brackets, RequiredTree, IsRequired, any_value, one_value}
 use Rattle.dy_binding.specs.Bound.{count}
-use Rattle.dy_file_sizes.specs.Tokens.{tokens_of}
+use Rattle.dy_token_limit.specs.Tokens.{tokens_of}
 use Rattle.dy_file_sizes.proofs.Tokens.{join_tokens, row_tokens}
 
 pub variable_counts : (variable : VariableTree) (fragments : List SeenFragment) → IsVariable variable fragments → 1 ≤ tokens_of fragments

@@ -20,7 +20,7 @@ use Rattle.dy_library_rows.specs.Libraries.{Form, read_form, rows_of}
 use Rattle.dy_lowering_whole.specs.sizes.Nodes.{nodes_of, nodes_of_library}
 use Rattle.dy_lowering_whole.specs.sizes.Sizes.{IsSmall}
 use Rattle.dy_unit_sizes.specs.Sizes.{PartsHaveAtMost}
-use Rattle.dy_file_sizes.specs.Tokens.{tokens_of}
+use Rattle.dy_token_limit.specs.Tokens.{tokens_of}
 use Rattle.dy_file_sizes.specs.Drafts.{size, draft_size}
 use Rattle.dy_file_sizes.specs.Rows.{nodes_of_rows, HasCodeOf}
 use Rattle.dy_file_sizes.specs.Files.{File, AreRead, forms_of, bytes_of}

@@ -1,5 +1,6 @@
 pub mod Adding
 pub mod LexedFiles
+pub mod FirstTold
 pub mod Joining
 pub mod Uniqueness
 pub mod OneAnswer

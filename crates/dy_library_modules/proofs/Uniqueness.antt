@@ -1,7 +1,6 @@
 -- Texts, and the files that define a library, have one answer.
-use Rattle.std.proofs.Common.{◌≡◌, ◌≢◌, ℕ, ◌+◌, List, [], ◌∷◌, ◌++◌, Option, Some, None, Result, Ok, Err, refl, sym, ap, subst, ◌∙◌, inl, inr}
+use Rattle.std.proofs.Common.{◌≡◌, ℕ, ◌+◌, List, [], ◌∷◌, ◌++◌, Option, Some, None, Result, Ok, Err, refl, sym, ap, subst, ◌∙◌, inl, inr}
 use Rattle.std.specs.List.{filter}
-use Rattle.dy_base.specs.declared.exports.Exports.{Exports}
 use Rattle.dy_base.specs.declared.fault.Fault.{Fault}
 use Rattle.dy_base.specs.declared.fault.Place.{Place}
 use Rattle.dy_tree.specs.declared.words.Words.{Words}
@@ -11,12 +10,13 @@ use Rattle.dy_lexer.proofs.OneReading.{one_source, one_first, source_or_fault}
 use Rattle.dy_fragment.specs.Steps.{Grouping, group_of}
 use Rattle.dy_fragment.proofs.Verdicts.{given_all, unique}
 use Rattle.dy_fragment.proofs.Telling.{determined}
+use Rattle.dy_complete_forms.proofs.Verdicts.{complete_one}
 use Rattle.dy_module_forms.specs.declared.written.Form.{Form}
 use Rattle.dy_module_forms.specs.Forms.{forms_of, IsFault}
 use Rattle.dy_library_modules.specs.declared.lexing.Lexed.{Lexed}
 use Rattle.dy_library_modules.specs.declared.lexing.Lexed.TheVariants.{Read, Faulty}
 use Rattle.dy_library_modules.specs.Texts.{Lexes, AreLexed, sources_of, first_fault, RefusesTexts, GivesSources}
-use Rattle.dy_library_modules.specs.Users.{is_user, IsDefining, IsFaulty, AreJoined, AreUsers}
+use Rattle.dy_library_modules.specs.Users.{is_user, IsDefining, first_told, IsFaulty, AreJoined, AreUsers}
 
 lexes_one : (file : ℕ) (text : List ℕ) (one other : Lexed) → Lexes file text one → Lexes file text other → one ≡ other
 lexes_one file text (Read a) (Read b) e f = ap Read (one_source file text a b e f)
@@ -70,17 +70,20 @@ module _ (words : Words) where
   defining_one file trees others e f = unique words file.tokens trees others e.0 f.0
 
   defining_or_faulty : (file : Source) (trees : List SeenFragment) (fault : Fault) → IsDefining words file trees → IsFaulty words file fault → ⊥
-  defining_or_faulty file trees fault e (inl refused) =
-      grouped_fault (group_of words file.tokens) trees fault (given_all 200 words file.tokens trees e.0 e.1) (determined 200 words file.tokens fault refused)
+  defining_or_faulty file trees fault e (inl (later, forms, refused, complete, is)) =
+      grouped_fault (group_of words file.tokens) trees later (given_all 200 words file.tokens trees e.0 e.1) (determined 200 words file.tokens later refused)
   defining_or_faulty file trees fault e (inr (others, grouped, low, is)) =
       forms_or_fault (forms_of others) e.2.0 fault (ap (λ (ts : List SeenFragment). forms_of ts) (unique words file.tokens others trees grouped e.0) ∙ e.2.1) is
 
   faulty_one : (file : Source) (f g : Fault) → IsFaulty words file f → IsFaulty words file g → f ≡ g
-  faulty_one file f g (inl first) (inl second) = same_fault (group_of words file.tokens) f g (determined 200 words file.tokens f first) (determined 200 words file.tokens g second)
-  faulty_one file f g (inl first) (inr (trees, grouped, low, is)) =
-      absurd (grouped_fault (group_of words file.tokens) trees f (given_all 200 words file.tokens trees grouped low) (determined 200 words file.tokens f first))
-  faulty_one file f g (inr (trees, grouped, low, is)) (inl second) =
-      absurd (grouped_fault (group_of words file.tokens) trees g (given_all 200 words file.tokens trees grouped low) (determined 200 words file.tokens g second))
+  faulty_one file f g (inl (later, forms, first, complete, is)) (inl (other, others, second, also, too)) =
+      let same = same_fault (group_of words file.tokens) later other (determined 200 words file.tokens later first) (determined 200 words file.tokens other second) in
+      let one = complete_one words file.tokens forms others complete also in
+      is ∙ (λ i. first_told (forms_of (one i)) (same i)) ∙ sym too
+  faulty_one file f g (inl (later, forms, first, complete, is)) (inr (trees, grouped, low, also)) =
+      absurd (grouped_fault (group_of words file.tokens) trees later (given_all 200 words file.tokens trees grouped low) (determined 200 words file.tokens later first))
+  faulty_one file f g (inr (trees, grouped, low, is)) (inl (later, forms, first, complete, also)) =
+      absurd (grouped_fault (group_of words file.tokens) trees later (given_all 200 words file.tokens trees grouped low) (determined 200 words file.tokens later first))
   faulty_one file f g (inr (trees, grouped, low, is)) (inr (others, grouping, deep, also)) =
       form_fault (forms_of trees) f g is (subst (λ (ts : List SeenFragment). IsFault (forms_of ts) g) (unique words file.tokens others trees grouping grouped) also)
 

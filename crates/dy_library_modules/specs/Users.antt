@@ -3,6 +3,7 @@ use Rattle.std.specs.Prelude.{◌≡◌, ◌≤◌, ◌⊎◌, Bool, List, [], �
 use Rattle.std.specs.List.{filter}
 use Rattle.std.specs.Str.{bytes_eq}
 use Rattle.dy_base.specs.declared.fault.Fault.{Fault}
+use Rattle.dy_base.specs.declared.fault.Place.{Place}
 use Rattle.dy_base.specs.declared.fault.Refusal.{Refusal}
 use Rattle.dy_base.specs.declared.fault.Refusal.TheVariants as refusals
 use Rattle.dy_tree.specs.declared.fragment.Fragment.{Fragment}
@@ -10,9 +11,10 @@ use Rattle.dy_tree.specs.declared.words.Words.{Words}
 use Rattle.dy_tree.specs.Fragments.{SeenFragment, seen_fragments}
 use Rattle.dy_fragment.specs.Groups.{Grouped, depth}
 use Rattle.dy_fragment.specs.Faults.{Refused}
+use Rattle.dy_complete_forms.specs.Forms.{AreComplete}
 use Rattle.dy_lexer.specs.declared.source.Source.{Source}
 use Rattle.dy_module_forms.specs.declared.written.Form.{Form}
-use Rattle.dy_module_forms.specs.Forms.{forms_of, IsFault}
+use Rattle.dy_module_forms.specs.Forms.{forms_of, syntax_at, IsFault}
 
 -- a file that defines the library or its modules
 abbrev pub is_user : Source → Bool
@@ -23,9 +25,18 @@ abbrev pub IsDefining : Words → Source → List SeenFragment → Type 0
 IsDefining words file trees = Grouped words file.tokens trees × (depth trees ≤ 200)
     × ((forms : List Form) × (forms_of trees ≡ Ok forms))
 
--- the first fault of its groups; or of its forms, where it has trees
+-- Complete forms stand in front of a fault of the groups. So if one of them is no form of a library
+-- or of a module, that is told, and else the fault.
+abbrev pub first_told : Result (List Form) Place → Fault → Fault
+first_told (Ok forms) fault = fault
+first_told (Err place) fault = syntax_at place
+
+-- the first fault of its groups, or that of a complete form in front; or, where it has trees, that
+-- of its forms
 abbrev pub IsFaulty : Words → Source → Fault → Type 0
-IsFaulty words file fault = Refused 200 words file.tokens fault
+IsFaulty words file fault =
+    ((later : Fault) × (trees : List SeenFragment) × Refused 200 words file.tokens later
+    × AreComplete words file.tokens trees × (fault ≡ first_told (forms_of trees) later))
     ⊎ ((trees : List SeenFragment) × Grouped words file.tokens trees × (depth trees ≤ 200)
     × IsFault (forms_of trees) fault)
 

@@ -1,7 +1,6 @@
 //! Laws of the texts of a library and of the files that define it.
 
 ghost use Rattle.std.specs.Prelude.{◌≡◌, ℕ, true, List, ◌∷◌, ◌++◌, map, Some, None, Result, Ok};
-ghost use Rattle.dy_base.specs.declared.exports.Exports.{Exports};
 ghost use Rattle.dy_base.specs.declared.fault.Fault.{Fault};
 ghost use Rattle.dy_tree.specs.declared.words.Words.{Words};
 ghost use Rattle.dy_tree.specs.Fragments.{SeenFragment};
@@ -9,6 +8,7 @@ ghost use Rattle.dy_lexer.specs.declared.source.Source.{Source};
 ghost use Rattle.dy_module_forms.specs.declared.written.Form.{Form};
 ghost use Rattle.dy_module_forms.specs.Forms.{forms_of};
 ghost use Rattle.dy_modules.specs.Clauses.{Name};
+ghost use Rattle.dy_views.specs.declared.compiled.Compiled.{Compiled};
 ghost use Rattle.dy_library_modules.specs.declared.lexing.Lexed.{Lexed};
 ghost use Rattle.dy_library_modules.specs.declared.own_modules.LibraryModules.{LibraryModules};
 ghost use Rattle.dy_library_modules.specs.Texts.{AreLexed, RefusesTexts, GivesSources};
@@ -47,16 +47,16 @@ pub fn module_phase_laws()
         → AreUsers words sources (Ok trees) → (forms : List Form) × (forms_of trees ≡ Ok forms) }
     // What has modules has no fault.
     ensures modules_apart { (words : Words) (library : Name) (sources : List Source)
-        (used : List Exports) (found : LibraryModules) (fault : Fault)
-        → GivesModules words library sources used found
-        → RefusesModules words library sources used fault → ⊥ }
+        (compiled : Compiled) (found : LibraryModules) (fault : Fault)
+        → GivesModules words library sources compiled found
+        → RefusesModules words library sources compiled fault → ⊥ }
     // Where the answer of `graph` is one, it has one list of modules, or one first fault.
     ensures one_modules { TablesAreOne → (words : Words) (library : Name) (sources : List Source)
-        (used : List Exports) (one other : LibraryModules)
-        → GivesModules words library sources used one
-        → GivesModules words library sources used other → one ≡ other }
+        (compiled : Compiled) (one other : LibraryModules)
+        → GivesModules words library sources compiled one
+        → GivesModules words library sources compiled other → one ≡ other }
     ensures one_modules_fault { TableFaultsAreOne → (words : Words) (library : Name)
-        (sources : List Source) (used : List Exports) (one other : Fault)
-        → RefusesModules words library sources used one
-        → RefusesModules words library sources used other → one ≡ other }
+        (sources : List Source) (compiled : Compiled) (one other : Fault)
+        → RefusesModules words library sources compiled one
+        → RefusesModules words library sources compiled other → one ≡ other }
 {}

@@ -5,6 +5,7 @@ ghost use Rattle.dy_library_modules.specs.Users as spec;
 ghost use Rattle.dy_library_modules.specs.Users.{AnswersFile, AnswersUsers};
 
 use dy_base::{Items, Refusal};
+use dy_complete_forms::complete_forms;
 use dy_fragment::group;
 use dy_lexer::Source;
 use dy_module_forms::read_forms;
@@ -18,13 +19,23 @@ pub fn is_user(file: &Source) -> bool
     file.module.bytes() == b"dylan-user".as_slice()
 }
 
-/// The groups of a file that holds forms of a library and of modules, and nothing else.
+/// The groups of a file that holds forms of a library and of modules, and nothing else. Where they
+/// have a fault, the forms in front of it are read, and a fault of theirs is told.
 fn group_file(alloc: Global, words: &Words, file: &Source) -> Result<Items<Fragment>, Refusal>
     ensures { AnswersFile words.now file.now result }
 {
-    let fragments = group(alloc, &file.tokens, words)?;
-    read_forms(alloc, fragments.as_slice())?;
-    Ok(fragments)
+    match group(alloc, &file.tokens, words) {
+        Ok(fragments) => {
+            read_forms(alloc, fragments.as_slice())?;
+            Ok(fragments)
+        }
+        Err(Refusal::Fault(fault)) => {
+            let complete = complete_forms(alloc, &file.tokens, words)?;
+            read_forms(alloc, complete.as_slice())?;
+            Err(Refusal::Fault(fault))
+        }
+        Err(Refusal::Memory) => Err(Refusal::Memory),
+    }
 }
 
 /// The groups of the files that define a library and its modules, one file behind the other, or the

@@ -5,7 +5,7 @@ use Rattle.std.specs.Fmt.{digits}
 use Rattle.dy_lexer.specs.Headers.{is_printable}
 use Rattle.dy_sources.specs.Layout.{source_name}
 use Rattle.dy_sources.specs.Points.{point_at}
-use Rattle.dy_sources.specs.Refusals.{refusal_line, no_file, long_file, many_files}
+use Rattle.dy_sources.specs.Refusals.{refusal_line, no_file, long_file, many_files, many_libraries, unknown_main}
 use Rattle.dy_sources.specs.Verdicts.{position_of}
 
 -- the escape of a line end in a text is the byte 10
@@ -33,6 +33,18 @@ too_long = refl
 too_many : refusal_line (many_files (codes "a.lid")) ≡ codes "refused a.lid: 31 Limit at a.lid:1:1: files 64\n"
 unfolding digits
 too_many = refl
+
+no_room : refusal_line (many_libraries (codes "hello") (codes "a/b.dylan" ∷ codes "a/c.dylan" ∷ [])) ≡ codes "refused hello: 31 Limit at a/b.dylan:1:1: libraries 64\n"
+unfolding digits
+no_room = refl
+
+no_room_without_files : refusal_line (many_libraries (codes "hello") []) ≡ codes "refused hello: 31 Limit: libraries 64\n"
+unfolding digits
+no_room_without_files = refl
+
+no_main : refusal_line (unknown_main (codes "Hello")) ≡ codes "refused hello: 12 UnknownLibrary: hello\n"
+unfolding digits
+no_main = refl
 
 second_line : point_at (codes "one\n two\n") 5 ≡ record { line = 2; column = 2 }
 second_line = refl

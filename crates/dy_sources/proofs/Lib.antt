@@ -5,5 +5,8 @@ pub mod FileNames
 pub mod Sources
 pub mod Reading
 pub mod Uniqueness
+pub mod Naming
+pub mod Accepting
 pub mod Accepted
+pub mod Chains
 pub mod Judging

@@ -1,6 +1,6 @@
 -- Files are read one after the other.
-use Rattle.std.proofs.Common.{◌≡◌, ℕ, zero, suc, ◌+◌, ◌<◌, ◌≤◌, ◌^◌, Bool, true, false, ◌&&◌, List, [], ◌∷◌, ◌++◌, length, take, drop, get_or, Option, Some, None, Result, Ok, Err, refl, sym, ap, ◌∙◌, subst, append_assoc, arith}
-use Rattle.std.specs.Prelude.{nat_le, nat_lt, map, slice_get, IsTrue, Contains}
+use Rattle.std.proofs.Common.{◌≡◌, ℕ, zero, suc, ◌+◌, ◌<◌, ◌≤◌, Bool, true, false, ◌&&◌, List, [], ◌∷◌, ◌++◌, length, take, drop, get_or, Some, None, Err, refl, sym, ap, ◌∙◌, subst, append_assoc, arith}
+use Rattle.std.specs.Prelude.{nat_le, map, slice_get}
 use Rattle.std.specs.List.{list_all}
 use Rattle.std.specs.Option.{option_map}
 use Rattle.std.proofs.lemmas.Bool.{le-leb, leb-true}
@@ -15,7 +15,7 @@ use Rattle.dy_sources.specs.Points.{point_at}
 use Rattle.dy_sources.specs.Refusals.{position_at}
 use Rattle.dy_sources.specs.declared.source.Halt.{Halt}
 use Rattle.dy_sources.specs.declared.source.Halt.TheVariants as halts
-use Rattle.dy_sources.specs.Judged.{IsSourceOf, AreWithin, IsRead, AreRead}
+use Rattle.dy_sources.specs.Judged.{IsSourceOf, AreWithin, IsRead, FilesAreRead}
 use Rattle.dy_sources.specs.Verdicts.{text, source_at, source_fault, position_in, AreTexts, IsFirstFault}
 
 -- ---- one more text
@@ -58,7 +58,7 @@ first_read held lid library names texts i file why within at are is = (
 
 -- so reading it ends the reading of all
 pub err_read : (held : FileMap) (lid library : List ℕ) (names texts : List (List ℕ)) (i : ℕ) (file name : List ℕ) (halt : Halt) → i < length names → file ≡ get_or names i file
-    → AreTexts held (map (source_name lid) (take i names)) texts → name ≡ source_name lid file → IsRead library name (source_at held name) (Err halt) → AreRead held library (map (source_name lid) names) (Err halt)
+    → AreTexts held (map (source_name lid) (take i names)) texts → name ≡ source_name lid file → IsRead library name (source_at held name) (Err halt) → FilesAreRead held library (map (source_name lid) names) (Err halt)
 err_read held lid library names texts i file name (halts.Refused why) within at are same is =
     first_read held lid library names texts i file why within (sym at) are (subst (λ (n : List ℕ). source_fault library n (source_at held n) ≡ Some why) same is)
 err_read held lid library names texts i file name (halts.FileFault other) within at are same is = tt

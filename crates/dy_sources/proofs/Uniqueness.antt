@@ -1,15 +1,17 @@
 -- A library has one verdict.
-use Rattle.std.proofs.Common.{◌≡◌, ℕ, Bool, true, false, List, [], ◌∷◌, ◌++◌, Option, Some, None, refl, sym, ap, ◌∙◌, subst, inl, inr}
+use Rattle.std.proofs.Common.{◌≡◌, ℕ, Bool, true, false, List, [], ◌∷◌, ◌++◌, Some, refl, sym, ap, ◌∙◌, subst, inl, inr}
 use Rattle.std.specs.Prelude.{nat_le, map}
 use Rattle.dy_base.specs.declared.fault.Fault.{Fault}
 use Rattle.dy_io.specs.Files.{FileMap}
 use Rattle.dy_lexer.specs.declared.source.Lid.{Lid}
 use Rattle.dy_lexer.proofs.OneReading.{one_lid, one_lid_fault, lid_or_fault}
 use Rattle.dy_lid_files.proofs.Agreement.{names_one}
+use Rattle.dy_libraries.specs.declared.libraries.Libraries.{Libraries}
 use Rattle.dy_verdict_laws.proofs.Uniqueness.{verdict_one}
 use Rattle.dy_sources.specs.declared.refused.Refused.{Refused}
 use Rattle.dy_sources.specs.Layout.{files_limit, source_name}
-use Rattle.dy_sources.specs.Verdicts.{Source, absent, too_long, text, source_at, source_fault, Verdict, refused, located, position_in_lid, located_verdict, AreTexts, IsFirstFault, JudgesTexts, JudgesFiles, JudgesForm, JudgesFew, JudgesLid, JudgesSource}
+use Rattle.dy_sources.specs.Verdicts.{Source, absent, too_long, text, source_at, source_fault, Verdict, refused, located, position_in_lid, located_verdict, AreTexts, IsFirstFault, is_full, JudgesTexts, JudgesRoom, JudgesFiles, JudgesForm, JudgesFew, JudgesLid, JudgesSource}
+use Rattle.dy_sources.specs.Laws.{VerdictsAreOne}
 
 -- ---- the texts of files
 
@@ -25,8 +27,12 @@ bytes_back (bytes ∷ texts) = ap (λ (rest : List (List ℕ)). bytes ∷ rest) 
 texts_same : (files : FileMap) (names a b : List (List ℕ)) → AreTexts files names a → AreTexts files names b → a ≡ b
 texts_same files names a b is also = sym (bytes_back a) ∙ ap (map bytes_of) (sym is ∙ also) ∙ bytes_back b
 
-texts_one : (library : List ℕ) (names texts : List (List ℕ)) (a b : Verdict) → JudgesTexts library names texts a → JudgesTexts library names texts b → a ≡ b
-texts_one library names texts a b (judged, is, same) (other, also, equal) = same ∙ ap (located_verdict library names texts) (verdict_one library texts judged other is also) ∙ sym equal
+texts_one : (before : Libraries) (library : List ℕ) (names texts : List (List ℕ)) (a b : Verdict) → JudgesTexts before library names texts a → JudgesTexts before library names texts b → a ≡ b
+texts_one before library names texts a b (judged, is, same) (other, also, equal) = same ∙ ap (located_verdict library names texts) (verdict_one before.compiled library texts judged other is also) ∙ sym equal
+
+room_one : (before : Libraries) (full : Bool) (library : List ℕ) (names texts : List (List ℕ)) (a b : Verdict) → JudgesRoom before full library names texts a → JudgesRoom before full library names texts b → a ≡ b
+room_one before true library names texts a b e f = e ∙ sym f
+room_one before false library names texts a b is also = texts_one before library names texts a b is also
 
 -- ---- the first file that is no text
 
@@ -78,35 +84,38 @@ apart : (files : FileMap) (library : List ℕ) (names : List (List ℕ)) (why : 
 apart files library names why texts (front, name, behind, parts, (others, alike), is) are =
     first_or_texts files library front name behind why texts (subst (λ (all : List (List ℕ)). AreTexts files all texts) parts are) is
 
-files_one : (files : FileMap) (library : List ℕ) (names : List (List ℕ)) (a b : Verdict) → JudgesFiles files library names a → JudgesFiles files library names b → a ≡ b
-files_one files library names a b (inl (why, is, e)) (inl (reason, also, f)) = e ∙ ap refused (first_one files library names why reason is also) ∙ sym f
-files_one files library names a b (inl (why, is, e)) (inr (texts, are, judged)) = absurd (apart files library names why texts is are)
-files_one files library names a b (inr (texts, are, judged)) (inl (why, is, e)) = absurd (apart files library names why texts is are)
-files_one files library names a b (inr (texts, are, judged)) (inr (others, alike, judges)) =
-    texts_one library names texts a b judged
-    (subst (λ (ts : List (List ℕ)). JudgesTexts library names ts b) (texts_same files names others texts alike are) judges)
+files_one : (before : Libraries) (files : FileMap) (library : List ℕ) (names : List (List ℕ)) (a b : Verdict) → JudgesFiles before files library names a → JudgesFiles before files library names b → a ≡ b
+files_one before files library names a b (inl (why, is, e)) (inl (reason, also, f)) = e ∙ ap refused (first_one files library names why reason is also) ∙ sym f
+files_one before files library names a b (inl (why, is, e)) (inr (texts, are, judged)) = absurd (apart files library names why texts is are)
+files_one before files library names a b (inr (texts, are, judged)) (inl (why, is, e)) = absurd (apart files library names why texts is are)
+files_one before files library names a b (inr (texts, are, judged)) (inr (others, alike, judges)) =
+    room_one before (is_full before) library names texts a b judged
+    (subst (λ (ts : List (List ℕ)). JudgesRoom before (is_full before) library names ts b) (texts_same files names others texts alike are) judges)
 
 -- ---- LID files
 
-form_one : (files : FileMap) (lid bytes : List ℕ) (a b : Verdict) → JudgesForm files lid bytes a → JudgesForm files lid bytes b → a ≡ b
-form_one files lid bytes a b (inl (f, is, e)) (inl (g, also, h)) =
+form_one : (before : Libraries) (files : FileMap) (lid bytes : List ℕ) (a b : Verdict) → JudgesForm before files lid bytes a → JudgesForm before files lid bytes b → a ≡ b
+form_one before files lid bytes a b (inl (f, is, e)) (inl (g, also, h)) =
     e ∙ ap (λ (fault : Fault). refused (located lid (position_in_lid lid bytes fault.place) fault)) (one_lid_fault bytes f g is also) ∙ sym h
-form_one files lid bytes a b (inl (f, is, e)) (inr (found, also, judged)) = absurd (lid_or_fault bytes found f also is)
-form_one files lid bytes a b (inr (found, is, judged)) (inl (f, also, e)) = absurd (lid_or_fault bytes found f is also)
-form_one files lid bytes a b (inr (found, is, judged)) (inr (other, also, judges)) =
-    files_one files found.library (map (source_name lid) found.files) a b judged
-    (subst (λ (l : Lid). JudgesFiles files l.library (map (source_name lid) l.files) b) (one_lid bytes other found also is) judges)
+form_one before files lid bytes a b (inl (f, is, e)) (inr (found, also, judged)) = absurd (lid_or_fault bytes found f also is)
+form_one before files lid bytes a b (inr (found, is, judged)) (inl (f, also, e)) = absurd (lid_or_fault bytes found f is also)
+form_one before files lid bytes a b (inr (found, is, judged)) (inr (other, also, judges)) =
+    files_one before files found.library (map (source_name lid) found.files) a b judged
+    (subst (λ (l : Lid). JudgesFiles before files l.library (map (source_name lid) l.files) b) (one_lid bytes other found also is) judges)
 
-few_one : (few : Bool) (files : FileMap) (lid bytes : List ℕ) (a b : Verdict) → JudgesFew few files lid bytes a → JudgesFew few files lid bytes b → a ≡ b
-few_one false files lid bytes a b e f = e ∙ sym f
-few_one true files lid bytes a b e f = form_one files lid bytes a b e f
+few_one : (before : Libraries) (few : Bool) (files : FileMap) (lid bytes : List ℕ) (a b : Verdict) → JudgesFew before few files lid bytes a → JudgesFew before few files lid bytes b → a ≡ b
+few_one before false files lid bytes a b e f = e ∙ sym f
+few_one before true files lid bytes a b e f = form_one before files lid bytes a b e f
 
-lid_one : (files : FileMap) (lid bytes : List ℕ) (a b : Verdict) → JudgesLid files lid bytes a → JudgesLid files lid bytes b → a ≡ b
-lid_one files lid bytes a b (count, names, judged) (other, also, judges) =
-    few_one (nat_le count files_limit) files lid bytes a b judged
-    (subst (λ (n : ℕ). JudgesFew (nat_le n files_limit) files lid bytes b) (names_one bytes other count also names) judges)
+lid_one : (before : Libraries) (files : FileMap) (lid bytes : List ℕ) (a b : Verdict) → JudgesLid before files lid bytes a → JudgesLid before files lid bytes b → a ≡ b
+lid_one before files lid bytes a b (count, names, judged) (other, also, judges) =
+    few_one before (nat_le count files_limit) files lid bytes a b judged
+    (subst (λ (n : ℕ). JudgesFew before (nat_le n files_limit) files lid bytes b) (names_one bytes other count also names) judges)
 
-pub library_one : (files : FileMap) (lid : List ℕ) (source : Source) (a b : Verdict) → JudgesSource files lid source a → JudgesSource files lid source b → a ≡ b
-library_one files lid absent a b e f = e ∙ sym f
-library_one files lid too_long a b e f = e ∙ sym f
-library_one files lid (text bytes) a b e f = lid_one files lid bytes a b e f
+library_one : (before : Libraries) (files : FileMap) (lid : List ℕ) (source : Source) (a b : Verdict) → JudgesSource before files lid source a → JudgesSource before files lid source b → a ≡ b
+library_one before files lid absent a b e f = e ∙ sym f
+library_one before files lid too_long a b e f = e ∙ sym f
+library_one before files lid (text bytes) a b e f = lid_one before files lid bytes a b e f
+
+pub verdicts_are_one : VerdictsAreOne
+verdicts_are_one files before lid a b is also = library_one before files lid (source_at files lid) a b is also

@@ -4,7 +4,9 @@ use Rattle.std.specs.Prelude.{Contains, IsTrue, true, nat_le}
 use Rattle.std.specs.List.{list_all}
 use Rattle.dy_base.specs.declared.kind.Kind.TheVariants.{NoFile}
 use Rattle.dy_io.specs.Causes.{Rose}
-use Rattle.dy_term.specs.declared.rows.LibraryRow.{LibraryRow}
+use Rattle.dy_libraries.specs.declared.libraries.Libraries.{Libraries}
+use Rattle.dy_verdict.specs.declared.library.ReadLibrary.{ReadLibrary}
+use Rattle.dy_sources.specs.declared.refused.Refused.{Refused}
 use Rattle.dy_sources.specs.declared.source.Source.{Source as Read}
 use Rattle.dy_sources.specs.declared.source.Source.TheVariants as read
 use Rattle.dy_sources.specs.declared.source.Halt.{Halt}
@@ -13,7 +15,6 @@ use Rattle.dy_io.specs.Files.{FileMap}
 use Rattle.dy_lexer.specs.declared.source.Lid.{Lid}
 use Rattle.dy_lexer.specs.Headers.{is_printable}
 use Rattle.dy_lexer.specs.Sources.{IsLid}
-use Rattle.dy_verdict.specs.Verdicts as verdicts
 use Rattle.dy_sources.specs.Layout.{file_limit, source_name}
 use Rattle.dy_sources.specs.Verdicts.{Source, absent, too_long, text, source_at, source_fault}
 use Rattle.dy_sources.specs.Verdicts.{AreTexts, IsFirstFault, Verdict, refused, accepted}
@@ -37,11 +38,11 @@ IsRead subject name source (Err (halts.FileFault file)) = Unit {0}
 IsRead subject name source (Err halts.Memory) = Unit {0}
 
 -- Files were read: their texts, or what is wrong with the first that is no text.
-abbrev pub AreRead : FileMap → List ℕ → List (List ℕ) → Result (List (List ℕ)) Halt → Type 0
-AreRead files library names (Ok texts) = AreTexts files names texts
-AreRead files library names (Err (halts.Refused why)) = IsFirstFault files library names why
-AreRead files library names (Err (halts.FileFault file)) = Unit {0}
-AreRead files library names (Err halts.Memory) = Unit {0}
+abbrev pub FilesAreRead : FileMap → List ℕ → List (List ℕ) → Result (List (List ℕ)) Halt → Type 0
+FilesAreRead files library names (Ok texts) = AreTexts files names texts
+FilesAreRead files library names (Err (halts.Refused why)) = IsFirstFault files library names why
+FilesAreRead files library names (Err (halts.FileFault file)) = Unit {0}
+FilesAreRead files library names (Err halts.Memory) = Unit {0}
 
 -- so many texts, none of which is longer than a file may be
 abbrev pub AreWithin : ℕ → List (List ℕ) → Type 0
@@ -49,16 +50,18 @@ AreWithin count texts =
     (list_all (λ bytes. nat_le (length bytes) file_limit) texts ≡ true) × (length texts ≡ count)
 
 -- The answer is judged so, unless a file failed or memory ran out.
-abbrev pub Judged : (Verdict → Type 0) → Result LibraryRow Halt → Type 0
+abbrev pub Judged : (Verdict → Type 0) → Result ReadLibrary Halt → Type 0
 Judged judges (Ok library) = judges (accepted library)
 Judged judges (Err (halts.Refused why)) = judges (refused why)
 Judged judges (Err (halts.FileFault name)) = Unit {0}
 Judged judges (Err halts.Memory) = Unit {0}
 
--- some texts of some library come to these rows, whatever is told of files
-abbrev pub IsAccepted : LibraryRow → Type 0
-IsAccepted row = (library : List ℕ) × (texts : List (List ℕ))
-    × verdicts.IsVerdict library texts (verdicts.accepted row)
+-- The libraries are read so, unless a file failed or memory ran out.
+abbrev pub AllJudged : (Result Libraries Refused → Type 0) → Result Libraries Halt → Type 0
+AllJudged judges (Ok libraries) = judges (Ok libraries)
+AllJudged judges (Err (halts.Refused why)) = judges (Err why)
+AllJudged judges (Err (halts.FileFault name)) = Unit {0}
+AllJudged judges (Err halts.Memory) = Unit {0}
 
 -- A file is reported absent only where the misses rose.
 abbrev pub Misses : ℕ → ℕ → Halt → Type 0
@@ -110,3 +113,7 @@ IsBeside contents lid name =
 -- a file that is read for this LID file: that file itself, or one beside it
 abbrev pub NamesFile : Option FileMap → List ℕ → List ℕ → Type 0
 NamesFile contents lid name = (name ≡ lid) ⊎ IsBeside contents lid name
+
+-- a file that is read for one of these LID files
+abbrev pub NamesFileOf : Option FileMap → List (List ℕ) → List ℕ → Type 0
+NamesFileOf contents lids name = (lid : List ℕ) × Contains lids lid × NamesFile contents lid name

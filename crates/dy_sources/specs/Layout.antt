@@ -15,6 +15,10 @@ file_limit = 4194304
 abbrev pub files_limit : ℕ
 files_limit = 64
 
+-- A command has at most so many libraries beside the two that are built in.
+abbrev pub libraries_limit : ℕ
+libraries_limit = 64
+
 abbrev pub is_line_feed : ℕ → Bool
 is_line_feed byte = byte == 10
 

@@ -1,6 +1,6 @@
--- What the files of a library come to (own).
-use Rattle.std.specs.Prelude.{◌≡◌, ◌⊎◌, ℕ, Bool, true, false, nat_le, List, [], ◌∷◌, ◌++◌, length}
-use Rattle.std.specs.Prelude.{map as each, slice_get, Option, Some, None, if◌then◌else◌}
+-- What the files of a library come to behind others that were compiled before it (own).
+use Rattle.std.specs.Prelude.{◌≡◌, ◌⊎◌, ℕ, ◌+◌, Bool, true, false, nat_le, List, ◌∷◌, ◌++◌}
+use Rattle.std.specs.Prelude.{length, map as each, slice_get, Option, Some, None, if◌then◌else◌}
 use Rattle.std.specs.Option.{option_map}
 use Rattle.std.specs.FinMap as map
 use Rattle.dy_base.specs.declared.fault.Fault.{Fault}
@@ -9,12 +9,14 @@ use Rattle.dy_io.specs.Files.{FileMap}
 use Rattle.dy_lexer.specs.declared.source.Lid.{Lid}
 use Rattle.dy_lexer.specs.Sources.{IsLid, IsLidFault}
 use Rattle.dy_lid_files.specs.Names.{NamesFiles}
-use Rattle.dy_term.specs.declared.rows.LibraryRow.{LibraryRow}
+use Rattle.dy_libraries.specs.declared.libraries.Libraries.{Libraries}
+use Rattle.dy_verdict.specs.declared.library.ReadLibrary.{ReadLibrary}
 use Rattle.dy_verdict.specs.Verdicts as verdicts
 use Rattle.dy_sources.specs.declared.refused.Position.{Position}
 use Rattle.dy_sources.specs.declared.refused.Refused.{Refused}
-use Rattle.dy_sources.specs.Layout.{file_limit, files_limit, source_name}
-use Rattle.dy_sources.specs.Refusals.{no_file, long_file, many_files, position_at}
+use Rattle.dy_sources.specs.Layout.{file_limit, files_limit, libraries_limit, source_name}
+use Rattle.dy_sources.specs.Refusals.{no_file, long_file, many_files, many_libraries}
+use Rattle.dy_sources.specs.Refusals.{position_at}
 use Rattle.dy_sources.specs.Points.{point_at}
 
 -- a file: absent, longer than a file may be, or a text
@@ -30,10 +32,10 @@ source_of (Some bytes) = if nat_le (length bytes) file_limit then text bytes els
 abbrev pub source_at : FileMap → List ℕ → Source
 source_at files name = source_of (map.get files name)
 
--- why a library is refused, or its rows
+-- why a library is refused, or the library as it was read
 pub data Verdict : Type 0 where
   refused : (why : Refused) → Verdict
-  accepted : (library : LibraryRow) → Verdict
+  accepted : (library : ReadLibrary) → Verdict
 
 -- ---- places
 
@@ -64,13 +66,7 @@ position_in_lid lid bytes place =
 abbrev pub located_verdict : List ℕ → List (List ℕ) → List (List ℕ) → verdicts.Verdict → Verdict
 located_verdict library names texts (verdicts.refused fault) =
     refused (located library (position_of names texts fault.place) fault)
-located_verdict library names texts (verdicts.accepted row) = accepted row
-
--- what the texts of files of these names come to
-abbrev pub JudgesTexts : List ℕ → List (List ℕ) → List (List ℕ) → Verdict → Type 0
-JudgesTexts library names texts verdict =
-    (judged : verdicts.Verdict) × verdicts.IsVerdict library texts judged
-    × (verdict ≡ located_verdict library names texts judged)
+located_verdict library names texts (verdicts.accepted read) = accepted read
 
 -- what is wrong with a file of this name that is no text
 abbrev pub source_fault : List ℕ → List ℕ → Source → Option Refused
@@ -90,45 +86,63 @@ IsFirstFault files library names why =
     × ((texts : List (List ℕ)) × AreTexts files front texts)
     × (source_fault library name (source_at files name) ≡ Some why)
 
--- what the files of these names come to: what is wrong with the first that is no text, else what
--- their texts come to
-abbrev pub JudgesFiles : FileMap → List ℕ → List (List ℕ) → Verdict → Type 0
-JudgesFiles files library names verdict =
-    ((why : Refused) × IsFirstFault files library names why × (verdict ≡ refused why))
-    ⊎ ((texts : List (List ℕ)) × AreTexts files names texts
-    × JudgesTexts library names texts verdict)
+-- No library has room behind these. The two that are built in do not count.
+abbrev pub is_full : Libraries → Bool
+is_full libraries = nat_le (2 + libraries_limit) (length libraries.rows)
 
--- ---- LID files
+module _ (before : Libraries) where
+  -- what the texts of files of these names come to
+  abbrev pub JudgesTexts : List ℕ → List (List ℕ) → List (List ℕ) → Verdict → Type 0
+  JudgesTexts library names texts verdict =
+      (judged : verdicts.Verdict) × verdicts.IsVerdict before.compiled library texts judged
+      × (verdict ≡ located_verdict library names texts judged)
 
--- what the files come to that a LID file names, which lie beside it
-abbrev pub JudgesNames : FileMap → List ℕ → List ℕ → List (List ℕ) → Verdict → Type 0
-JudgesNames files lid library names verdict =
-    JudgesFiles files library (each (source_name lid) names) verdict
+  -- the same by whether there is no room for one more library, which is told before anything that
+  -- is wrong with the texts
+  abbrev pub JudgesRoom : Bool → List ℕ → List (List ℕ) → List (List ℕ) → Verdict → Type 0
+  JudgesRoom true library names texts verdict = verdict ≡ refused (many_libraries library names)
+  JudgesRoom false library names texts verdict = JudgesTexts library names texts verdict
 
--- a LID file's first fault, or what the files that it names come to
-abbrev pub JudgesForm : FileMap → List ℕ → List ℕ → Verdict → Type 0
-JudgesForm files lid bytes verdict =
-    ((fault : Fault) × IsLidFault bytes fault
-    × (verdict ≡ refused (located lid (position_in_lid lid bytes fault.place) fault)))
-    ⊎ ((found : Lid) × IsLid bytes found × JudgesNames files lid found.library found.files verdict)
+  -- what the files of these names come to: what is wrong with the first that is no text, else what
+  -- their texts come to
+  abbrev pub JudgesFiles : FileMap → List ℕ → List (List ℕ) → Verdict → Type 0
+  JudgesFiles files library names verdict =
+      ((why : Refused) × IsFirstFault files library names why × (verdict ≡ refused why))
+      ⊎ ((texts : List (List ℕ)) × AreTexts files names texts
+      × JudgesRoom (is_full before) library names texts verdict)
 
--- by whether a LID file names no more files than it may
-abbrev pub JudgesFew : Bool → FileMap → List ℕ → List ℕ → Verdict → Type 0
-JudgesFew false files lid bytes verdict = verdict ≡ refused (many_files lid)
-JudgesFew true files lid bytes verdict = JudgesForm files lid bytes verdict
+  -- ---- LID files
 
--- What the text of a LID file comes to. That it names too many files is told before anything that
--- is wrong with its lines.
-abbrev pub JudgesLid : FileMap → List ℕ → List ℕ → Verdict → Type 0
-JudgesLid files lid bytes verdict =
-    (count : ℕ) × NamesFiles bytes count
-    × JudgesFew (nat_le count files_limit) files lid bytes verdict
+  -- what the files come to that a LID file names, which lie beside it
+  abbrev pub JudgesNames : FileMap → List ℕ → List ℕ → List (List ℕ) → Verdict → Type 0
+  JudgesNames files lid library names verdict =
+      JudgesFiles files library (each (source_name lid) names) verdict
 
-abbrev pub JudgesSource : FileMap → List ℕ → Source → Verdict → Type 0
-JudgesSource files lid absent verdict = verdict ≡ refused (no_file lid lid)
-JudgesSource files lid too_long verdict = verdict ≡ refused (long_file lid lid)
-JudgesSource files lid (text bytes) verdict = JudgesLid files lid bytes verdict
+  -- a LID file's first fault, or what the files that it names come to
+  abbrev pub JudgesForm : FileMap → List ℕ → List ℕ → Verdict → Type 0
+  JudgesForm files lid bytes verdict =
+      ((fault : Fault) × IsLidFault bytes fault
+      × (verdict ≡ refused (located lid (position_in_lid lid bytes fault.place) fault)))
+      ⊎ ((found : Lid) × IsLid bytes found
+      × JudgesNames files lid found.library found.files verdict)
 
--- what the library of a LID file comes to: its first fault, or its rows
-abbrev pub IsVerdict : FileMap → List ℕ → Verdict → Type 0
-IsVerdict files lid verdict = JudgesSource files lid (source_at files lid) verdict
+  -- by whether a LID file names no more files than it may
+  abbrev pub JudgesFew : Bool → FileMap → List ℕ → List ℕ → Verdict → Type 0
+  JudgesFew false files lid bytes verdict = verdict ≡ refused (many_files lid)
+  JudgesFew true files lid bytes verdict = JudgesForm files lid bytes verdict
+
+  -- What the text of a LID file comes to. That it names too many files is told before anything that
+  -- is wrong with its lines.
+  abbrev pub JudgesLid : FileMap → List ℕ → List ℕ → Verdict → Type 0
+  JudgesLid files lid bytes verdict =
+      (count : ℕ) × NamesFiles bytes count
+      × JudgesFew (nat_le count files_limit) files lid bytes verdict
+
+  abbrev pub JudgesSource : FileMap → List ℕ → Source → Verdict → Type 0
+  JudgesSource files lid absent verdict = verdict ≡ refused (no_file lid lid)
+  JudgesSource files lid too_long verdict = verdict ≡ refused (long_file lid lid)
+  JudgesSource files lid (text bytes) verdict = JudgesLid files lid bytes verdict
+
+-- what the library of a LID file comes to behind these: its first fault, or the library
+abbrev pub IsVerdict : FileMap → Libraries → List ℕ → Verdict → Type 0
+IsVerdict files before lid verdict = JudgesSource before files lid (source_at files lid) verdict

@@ -1,12 +1,13 @@
 //! Why a library is refused, and the line of it.
 
-ghost use Rattle.std.specs.Prelude.{◌≡◌, [], ◌∷◌, ◌++◌, IfOk, OnOk, decimal};
+ghost use Rattle.std.specs.Prelude.{◌≡◌, ◌++◌, IfOk, OnOk, decimal};
 ghost use Rattle.dy_sources.specs.Points.{point_at};
 ghost use Rattle.dy_sources.specs.Refusals.{kind_text, position_text, spaced, shown_text};
-ghost use Rattle.dy_sources.specs.Refusals.{refusal_line, no_file, position_at, over_limit};
+ghost use Rattle.dy_sources.specs.Refusals.{refusal_line, no_file, position_at, begin_of};
+ghost use Rattle.dy_sources.specs.Refusals.{past_limit, over_limit, unknown_main};
 
 use crate::point::{point_at, start};
-use dy_base::{Items, Kind, Text};
+use dy_base::{Items, Kind, Text, fold};
 use itoa::Buffer;
 use std::alloc::{AllocError, Global};
 
@@ -51,6 +52,28 @@ impl Refused {
         })
     }
 
+    /// A limit is passed, which is shown with its number.
+    pub(crate) fn past_limit(
+        alloc: Global,
+        subject: &[u8],
+        position: Option<Position>,
+        quantity: &[u8],
+        most: &[u8],
+    ) -> Result<Refused, AllocError>
+        ensures { IfOk result
+            (λ refused. refused ≡ past_limit subject.now position quantity.now most.now) }
+    {
+        let mut shown = Items::new(alloc);
+        shown.push(Text::of(alloc, quantity)?)?;
+        shown.push(Text::of(alloc, most)?)?;
+        Ok(Refused {
+            kind: Kind::Limit,
+            subject: Text::of(alloc, subject)?,
+            position,
+            shown,
+        })
+    }
+
     /// A file is over a limit, which is shown with its number.
     pub(crate) fn over_limit(
         alloc: Global,
@@ -62,21 +85,37 @@ impl Refused {
         ensures { IfOk result
             (λ refused. refused ≡ over_limit subject.now file.now quantity.now most.now) }
     {
-        let mut shown = Items::new(alloc);
-        shown.push(Text::of(alloc, quantity)?)?;
-        shown.push(Text::of(alloc, most)?)?;
-        let point = start();
-        Ok(Refused {
-            kind: Kind::Limit,
-            subject: Text::of(alloc, subject)?,
-            position: Some(Position {
-                file: Text::of(alloc, file)?,
-                line: point.line,
-                column: point.column,
-            }),
-            shown,
-        })
+        let position = begin_of(alloc, file)?;
+        Refused::past_limit(alloc, subject, Some(position), quantity, most)
     }
+}
+
+/// The begin of a file.
+pub(crate) fn begin_of(alloc: Global, file: &[u8]) -> Result<Position, AllocError>
+    ensures { IfOk result (λ position. position ≡ begin_of file.now) }
+{
+    let point = start();
+    Ok(Position {
+        file: Text::of(alloc, file)?,
+        line: point.line,
+        column: point.column,
+    })
+}
+
+/// A command has no library of the name that it is to run: the name, folded, is the subject and is
+/// shown. The one error is want of memory.
+pub fn unknown_main(alloc: Global, name: &[u8]) -> Result<Refused, AllocError>
+    ensures { IfOk result (λ refused. refused ≡ unknown_main name.now) }
+{
+    let name = fold(alloc, name)?;
+    let mut shown = Items::new(alloc);
+    shown.push(Text::of(alloc, name.bytes())?)?;
+    Ok(Refused {
+        kind: Kind::UnknownLibrary,
+        subject: Text::of(alloc, name.bytes())?,
+        position: None,
+        shown,
+    })
 }
 
 /// Where a fault of a file stands.

@@ -1,29 +1,34 @@
 //! The sources of a library, read and judged.
 
-ghost use Rattle.std.specs.Prelude.{◌≡◌, ◌≢◌, ◌≤◌, IfOk, IfErr, Some, IsTrue, length, map};
+ghost use Rattle.std.specs.Prelude.{◌≡◌, ◌≤◌, IfOk, IfErr, Some, IsTrue, length, map, false};
+ghost use Rattle.std.specs.Prelude.{slice_get};
+ghost use Rattle.std.specs.Option.{option_map};
+ghost use Rattle.dy_base.specs.Folding.{folded};
 ghost use Rattle.dy_io.specs.Causes.{Rose};
 ghost use Rattle.dy_io.specs.Files.{FileMap};
 ghost use Rattle.dy_sources.specs.Layout.{file_limit, files_limit, source_name};
-ghost use Rattle.dy_lexer.specs.Headers.{is_printable, are_printable};
+ghost use Rattle.dy_lexer.specs.Headers.{are_printable};
 ghost use Rattle.dy_lexer.specs.Sources.{IsLid};
 ghost use Rattle.dy_lexer.specs.declared.source.Lid.{Lid};
-ghost use Rattle.dy_sources.specs.Refusals.{long_file, many_files};
+ghost use Rattle.dy_sources.specs.Refusals.{begin_of, long_file, many_files, many_libraries};
+ghost use Rattle.dy_libraries.specs.Commands.{AreLibraries};
 ghost use Rattle.dy_sources.specs.Verdicts.{source_of, source_at, position_of, position_in_lid};
-ghost use Rattle.dy_sources.specs.Verdicts.{located, JudgesTexts, JudgesNames, JudgesForm};
-ghost use Rattle.dy_sources.specs.Verdicts.{JudgesLid, IsVerdict};
-ghost use Rattle.dy_sources.specs.Judged.{seen_source, IsWithin, IsRead, AreRead, AreWithin};
+ghost use Rattle.dy_sources.specs.Verdicts.{located, is_full, JudgesTexts, JudgesRoom};
+ghost use Rattle.dy_sources.specs.Verdicts.{JudgesNames, JudgesForm, JudgesLid, IsVerdict};
+ghost use Rattle.dy_sources.specs.Libraries.{IsAccepted};
+ghost use Rattle.dy_sources.specs.Judged.{seen_source, IsWithin, IsRead, FilesAreRead, AreWithin};
 ghost use Rattle.dy_sources.specs.Judged.{Interrupts, Fails, Misses, Judged, IsPlain, TellsName};
-ghost use Rattle.dy_sources.specs.Judged.{IsSourceOf, NamesFile, IsAccepted};
+ghost use Rattle.dy_sources.specs.Judged.{IsSourceOf, NamesFile};
 ghost use Rattle.dy_library_modules.specs.Texts.{AreShort, AreFew};
 
 use crate::names::source_name;
-use crate::refused::{Position, Refused, position_at};
+use crate::refused::{Position, Refused, begin_of, position_at};
 use dy_base::{Fault, Items, Name, Place, Refusal, Text};
 use dy_io::{Files, Found, ReadFail};
 use dy_lexer::{Lid, read_lid};
+use dy_libraries::Libraries;
 use dy_lid_files::named_files;
-use dy_term::LibraryRow;
-use dy_verdict::read_sources;
+use dy_verdict::{ReadLibrary, read_sources};
 use std::alloc::{AllocError, AllocFailed, Global};
 
 /// A file has at most so many bytes.
@@ -31,6 +36,9 @@ pub(crate) const FILE_LIMIT: usize = 4_194_304;
 
 /// A LID file names at most so many files.
 const FILES_LIMIT: usize = 64;
+
+/// A command has at most so many libraries, the two that are built in among them.
+const LIBRARIES_LIMIT: usize = 66;
 
 /// A source file.
 #[derive(Debug, Drop)]
@@ -155,7 +163,7 @@ fn read_texts<F: Files>(
 ) -> Result<Items<Text>, Halt>
     requires { IsTrue (are_printable names.now) }
     ensures read { (held : FileMap) → F.contents files.old ≡ Some held
-        → AreRead held library.now (map (source_name lid.now) names.now) result }
+        → FilesAreRead held library.now (map (source_name lid.now) names.now) result }
     ensures within { IfOk result (AreWithin (length names.now)) }
     ensures missed { IfErr result (Misses (F.misses files.old) (F.misses files.new)) }
     ensures failed { IfErr result (Fails (F.faults files.old) (F.faults files.new)) }
@@ -245,17 +253,22 @@ fn texts_library(
     library: &Name,
     names: &[Text],
     texts: &[Text],
-) -> Result<LibraryRow, Halt>
+    before: &Libraries,
+) -> Result<ReadLibrary, Halt>
     requires printable { IsTrue (are_printable names.now) }
     requires short { AreShort texts.now }
     requires few { AreFew texts.now }
+    requires lower { folded library.now ≡ library.now }
+    requires before { AreLibraries before.now }
+    requires room { is_full before.now ≡ false }
     ensures verdict { Judged
-        (JudgesTexts library.now (map (source_name lid.now) names.now) texts.now) result }
-    ensures accepted { IfOk result IsAccepted }
+        (JudgesTexts before.now library.now (map (source_name lid.now) names.now) texts.now)
+        result }
+    ensures accepted { IfOk result (IsAccepted before.now) }
     ensures refused { IfErr result IsPlain }
 {
-    match read_sources(alloc, library, texts) {
-        Ok(row) => Ok(row),
+    match read_sources(alloc, library, texts, &before.compiled) {
+        Ok(read) => Ok(read),
         Err(Refusal::Fault(fault)) => {
             let position = position_of(alloc, lid, names, texts, fault.place)?;
             let why = located(alloc, library.bytes(), position, fault)?;
@@ -265,18 +278,82 @@ fn texts_library(
     }
 }
 
+/// Whether no library has room behind these.
+fn is_full(before: &Libraries) -> bool
+    ensures { result ≡ is_full before.now }
+{
+    before.rows.len() >= LIBRARIES_LIMIT
+}
+
+/// The begin of the first of the files of these names in the LID file.
+fn first_place(alloc: Global, lid: &str, names: &[Text]) -> Result<Option<Position>, AllocError>
+    requires { IsTrue (are_printable names.now) }
+    ensures { IfOk result (λ position. position
+        ≡ option_map begin_of (slice_get (map (source_name lid.now) names.now) 0)) }
+{
+    let Some(file) = names.first() else {
+        return Ok(None);
+    };
+    let name = source_name(alloc, lid, file.bytes())?;
+    Ok(Some(begin_of(alloc, name.as_bytes())?))
+}
+
+/// A command has no room for a library whose files have these names in the LID file.
+fn many_libraries(
+    alloc: Global,
+    lid: &str,
+    library: &[u8],
+    names: &[Text],
+) -> Result<Refused, AllocError>
+    requires { IsTrue (are_printable names.now) }
+    ensures { IfOk result (λ why. why
+        ≡ many_libraries library.now (map (source_name lid.now) names.now)) }
+{
+    let position = first_place(alloc, lid, names)?;
+    Refused::past_limit(alloc, library, position, b"libraries", b"64")
+}
+
+/// The same, if there is room for one more library.
+fn room_library(
+    alloc: Global,
+    lid: &str,
+    library: &Name,
+    names: &[Text],
+    texts: &[Text],
+    before: &Libraries,
+) -> Result<ReadLibrary, Halt>
+    requires printable { IsTrue (are_printable names.now) }
+    requires short { AreShort texts.now }
+    requires few { AreFew texts.now }
+    requires lower { folded library.now ≡ library.now }
+    requires before { AreLibraries before.now }
+    ensures verdict { Judged
+        (JudgesRoom before.now (is_full before.now) library.now
+        (map (source_name lid.now) names.now) texts.now) result }
+    ensures accepted { IfOk result (IsAccepted before.now) }
+    ensures refused { IfErr result IsPlain }
+{
+    if is_full(before) {
+        let why = many_libraries(alloc, lid, library.bytes(), names)?;
+        return Err(Halt::Refused(why));
+    }
+    texts_library(alloc, lid, library, names, texts, before)
+}
+
 /// The library of a LID file that says this.
 fn found_library<F: Files>(
     alloc: Global,
     files: &mut F,
     lid: &str,
     found: &Lid,
-) -> Result<LibraryRow, Halt>
+    before: &Libraries,
+) -> Result<ReadLibrary, Halt>
     requires printable { IsTrue (are_printable found.now.files) }
     requires few { length found.now.files ≤ files_limit }
+    requires before { AreLibraries before.now }
     ensures verdict { (held : FileMap) → F.contents files.old ≡ Some held
-        → Judged (JudgesNames held lid.now found.now.library found.now.files) result }
-    ensures accepted { IfOk result IsAccepted }
+        → Judged (JudgesNames before.now held lid.now found.now.library found.now.files) result }
+    ensures accepted { IfOk result (IsAccepted before.now) }
     ensures missed { IfErr result (Misses (F.misses files.old) (F.misses files.new)) }
     ensures failed { IfErr result (Fails (F.faults files.old) (F.faults files.new)) }
     ensures named { IfErr result (TellsName (IsSourceOf lid.now found.now.files)) }
@@ -286,7 +363,7 @@ fn found_library<F: Files>(
 {
     let names = found.files.as_slice();
     let texts = read_texts(alloc, files, lid, found.library.bytes(), names)?;
-    texts_library(alloc, lid, &found.library, names, texts.as_slice())
+    room_library(alloc, lid, &found.library, names, texts.as_slice(), before)
 }
 
 /// The library of a LID file of this text, if it is in form.
@@ -295,12 +372,14 @@ fn form_library<F: Files>(
     files: &mut F,
     lid: &str,
     text: &[u8],
-) -> Result<LibraryRow, Halt>
+    before: &Libraries,
+) -> Result<ReadLibrary, Halt>
     requires within { length text.now ≤ file_limit }
     requires few { (found : Lid) → IsLid text.now found → length found.files ≤ files_limit }
+    requires before { AreLibraries before.now }
     ensures verdict { (held : FileMap) → F.contents files.old ≡ Some held
-        → Judged (JudgesForm held lid.now text.now) result }
-    ensures accepted { IfOk result IsAccepted }
+        → Judged (JudgesForm before.now held lid.now text.now) result }
+    ensures accepted { IfOk result (IsAccepted before.now) }
     ensures missed { IfErr result (Misses (F.misses files.old) (F.misses files.new)) }
     ensures failed { IfErr result (Fails (F.faults files.old) (F.faults files.new)) }
     ensures named { IfErr result
@@ -311,7 +390,7 @@ fn form_library<F: Files>(
     ensures faults { F.faults files.old ≤ F.faults files.new }
 {
     match read_lid(alloc, text) {
-        Ok(found) => found_library(alloc, files, lid, &found),
+        Ok(found) => found_library(alloc, files, lid, &found, before),
         Err(Refusal::Fault(fault)) => {
             let position = position_in_lid(alloc, lid.as_bytes(), text, fault.place)?;
             let why = located(alloc, lid.as_bytes(), position, fault)?;
@@ -334,11 +413,13 @@ fn lid_library<F: Files>(
     files: &mut F,
     lid: &str,
     text: &[u8],
-) -> Result<LibraryRow, Halt>
-    requires { length text.now ≤ file_limit }
+    before: &Libraries,
+) -> Result<ReadLibrary, Halt>
+    requires within { length text.now ≤ file_limit }
+    requires before { AreLibraries before.now }
     ensures verdict { (held : FileMap) → F.contents files.old ≡ Some held
-        → Judged (JudgesLid held lid.now text.now) result }
-    ensures accepted { IfOk result IsAccepted }
+        → Judged (JudgesLid before.now held lid.now text.now) result }
+    ensures accepted { IfOk result (IsAccepted before.now) }
     ensures missed { IfErr result (Misses (F.misses files.old) (F.misses files.new)) }
     ensures failed { IfErr result (Fails (F.faults files.old) (F.faults files.new)) }
     ensures named { IfErr result
@@ -349,28 +430,35 @@ fn lid_library<F: Files>(
     ensures faults { F.faults files.old ≤ F.faults files.new }
 {
     if named_files(text) <= FILES_LIMIT {
-        form_library(alloc, files, lid, text)
+        form_library(alloc, files, lid, text, before)
     } else {
         let why = many_files(alloc, lid.as_bytes())?;
         Err(Halt::Refused(why))
     }
 }
 
-/// The library of a LID file, as rows, or why there is none.
+/// The library of a LID file behind those that were compiled before it, or why there is none.
 ///
 /// A LID file names up to 64 source files, which lie beside it. Each file has at most 4,194,304
 /// bytes. A LID file that is absent is told first, then one that is too long or names too many
 /// files, then the first line of it that is out of form; then, of the first source file in its
-/// order that is absent or too long, that it is so; and then the first fault of the texts. Files
-/// are read in this order, and none behind a fault.
+/// order that is absent or too long, that it is so; then that the command has 64 libraries already,
+/// beside the two that are built in; and then the first fault of the texts. Files are read in this
+/// order, and none behind a fault.
 ///
 /// `Refused` comes with the first fault of the library, as `read_sources` of `dy_verdict` finds it
 /// in the texts; `FileFault` where the files count one more failure, with the name of a file that
 /// is read for this LID file; and `Memory` where memory ran out. No file is written.
-pub fn read_library<F: Files>(alloc: Global, files: &mut F, lid: &str) -> Result<LibraryRow, Halt>
+pub fn read_library<F: Files>(
+    alloc: Global,
+    files: &mut F,
+    lid: &str,
+    before: &Libraries,
+) -> Result<ReadLibrary, Halt>
+    requires { AreLibraries before.now }
     ensures verdict { (held : FileMap) → F.contents files.old ≡ Some held
-        → Judged (IsVerdict held lid.now) result }
-    ensures accepted { IfOk result IsAccepted }
+        → Judged (IsVerdict held before.now lid.now) result }
+    ensures accepted { IfOk result (IsAccepted before.now) }
     ensures missed { IfErr result (Misses (F.misses files.old) (F.misses files.new)) }
     ensures failed { IfErr result (Fails (F.faults files.old) (F.faults files.new)) }
     ensures named { IfErr result (TellsName (NamesFile (F.contents files.old) lid.now)) }
@@ -379,5 +467,5 @@ pub fn read_library<F: Files>(alloc: Global, files: &mut F, lid: &str) -> Result
     ensures faults { F.faults files.old ≤ F.faults files.new }
 {
     let text = read_text(alloc, files, lid.as_bytes(), lid)?;
-    lid_library(alloc, files, lid, text.bytes())
+    lid_library(alloc, files, lid, text.bytes(), before)
 }

@@ -1,6 +1,8 @@
+pub mod Accepted
 pub mod Cutting
 pub mod FormsRead
 pub mod Grouping
+pub mod Limiting
 pub mod PiecesRead
 pub mod PlainForms
 pub mod PlainModules
@@ -8,4 +10,5 @@ pub mod PlainNames
 pub mod PlainRows
 pub mod PlainTokens
 pub mod Reading
+pub mod Ready
 pub mod Verdicts

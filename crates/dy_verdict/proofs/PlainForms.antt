@@ -19,7 +19,8 @@ use Rattle.dy_tree.specs.Fragments.{SeenFragment}
 use Rattle.dy_construct_parts.specs.declared.construct.Construct.{Construct}
 use Rattle.dy_construct_parts.specs.Table.{first_absent}
 use Rattle.dy_constructs.specs.Forms.{in_form}
-use Rattle.dy_term.specs.declared.rows.LibraryRow.{LibraryRow}
+use Rattle.dy_token_limit.specs.Limit.{too_many_tokens}
+use Rattle.dy_views.specs.declared.compiled.Compiled.{Compiled}
 use Rattle.dy_library_rows.specs.Libraries.{Form, or_fault}
 use Rattle.dy_module_forms.specs.declared.written.Form.{Form as Written}
 use Rattle.dy_module_forms.specs.Forms as written
@@ -31,22 +32,24 @@ use Rattle.dy_doubled.specs.Doubled.{redefined, is_doubled, doubled_behind, plac
 use Rattle.dy_definitions.specs.declared.definitions.Definition.{Definition}
 use Rattle.dy_definitions.specs.Redefined as definitions
 use Rattle.dy_definitions.specs.Redefined.{is_redefined, redefined_among, all_redefined}
-use Rattle.dy_assembly.specs.Libraries.{own_heading}
 use Rattle.dy_library_modules.specs.declared.lexing.Lexed.{Lexed}
 use Rattle.dy_library_modules.specs.declared.lexing.Lexed.TheVariants.{Read, Faulty}
 use Rattle.dy_library_modules.specs.declared.own_modules.LibraryModules.{LibraryModules}
 use Rattle.dy_library_modules.specs.Words.{words}
 use Rattle.dy_library_modules.specs.Texts.{AreLexed, faults_of, is_header, first_of, RefusesTexts, GivesSources}
-use Rattle.dy_library_modules.specs.Users.{is_user, IsFaulty, AreJoined}
-use Rattle.dy_library_modules.specs.Modules.{headers_of, RefusesForms, RefusesRead, GivesRead, RefusesModules, GivesModules}
+use Rattle.dy_library_modules.specs.Users.{is_user, first_told, IsFaulty, AreJoined}
+use Rattle.dy_library_modules.specs.Modules.{headers_of, used_by, RefusesForms, RefusesRead, GivesRead, RefusesModules, GivesModules}
 use Rattle.dy_library_names.specs.Early.{stands_for_type, early_if, adds_again, again_among, type_faults, early_faults}
 use Rattle.dy_library_names.specs.Told.{or_more, IsTold, IsFirst}
-use Rattle.dy_library_names.specs.Named.{undefined, Reading, IsFirstFault, library_from, form_faults, limits}
+use Rattle.dy_library_names.specs.Named.{undefined, Reading, IsFirstFault, form_faults, limits}
 use Rattle.dy_module_names.specs.Definitions as names
+use Rattle.dy_verdict.specs.declared.library.ReadLibrary.{ReadLibrary}
 use Rattle.dy_verdict.specs.Pieces.{Piece, pieces_of, place_of}
 use Rattle.dy_verdict.specs.Forms.{fault_in, form_reading, told_reading, reading, first_refused, forms_of}
 use Rattle.dy_verdict.specs.Trees.{Trees, form_tokens, AreGrouped}
-use Rattle.dy_verdict.specs.Verdicts.{Verdict, refused, accepted, verdict_by, built_in, JudgesForms, JudgesRead, JudgesTrees, JudgesGroups, JudgesSources, IsVerdict, Judged, IsPlain}
+use Rattle.dy_verdict.specs.Limits.{HaveTooMany}
+use Rattle.dy_verdict.specs.Libraries.{place_by}
+use Rattle.dy_verdict.specs.Verdicts.{Verdict, refused, accepted, JudgesNames, JudgesForms, JudgesRead, JudgesPieces, JudgesTrees, JudgesGroups, JudgesSources, IsVerdict, Judged, IsPlain}
 use Rattle.dy_verdict.proofs.PlainTokens.{IsPresent, present_same, source_present, groups_present}
 use Rattle.dy_verdict.proofs.PlainNames.{Tells}
 use Rattle.dy_verdict.proofs.PlainRows.{AllTell, all_tell, forms_tell, limits_tell}
@@ -86,8 +89,13 @@ written_present : (read : Result (List Written) Place) (fault : Fault) → writt
 written_present (Ok forms) fault is = absurd is
 written_present (Err place) fault is = present_same fault (written.syntax_at place) is (λ e. cc)
 
+first_open : (read : Result (List Written) Place) (later : Fault) → IsPresent later → IsPresent (first_told read later)
+first_open (Ok forms) later present = present
+first_open (Err place) later present = λ e. cc
+
 file_present : (words : Words) (file : Source) (fault : Fault) → IsFaulty words file fault → IsPresent fault
-file_present known file fault (inl first) = groups_present 200 known file.tokens fault first
+file_present known file fault (inl (later, trees, declined, complete, is)) =
+    subst IsPresent (sym is) (first_open (written.forms_of trees) later (groups_present 200 known file.tokens later declined))
 file_present known file fault (inr (trees, grouped, deep, is)) = written_present (written.forms_of trees) fault is
 
 users_present : (words : Words) (files : List Source) (fault : Fault) → AreJoined words files (Err fault) → IsPresent fault
@@ -99,18 +107,18 @@ refuses_present : (g : Given) (forms : List Written) (fault : Fault) → Refuses
 refuses_present g [] fault is = present_same fault _ is (λ e. cc)
 refuses_present g (form ∷ forms) fault (f, told, is) = present_same fault _ is (fault_open g form f told.fault)
 
-library_tells : (used : List Exports) (library : Name) (form : Option Written) → Tells (library_fault used library form)
-library_tells used library None = tt
-library_tells used library (Some form) = cond_both (is_some (library_place used library)) (Some (redefined form)) None Tells (λ t e. cc) (λ t. tt)
+library_tells : (others : List Exports) (library : Name) (form : Option Written) → Tells (library_fault others library form)
+library_tells others library None = tt
+library_tells others library (Some form) = cond_both (is_some (library_place others library)) (Some (redefined form)) None Tells (λ t e. cc) (λ t. tt)
 
-read_present : (library : Name) (headers : List Name) (used : List Exports) (read : Result (List Written) Place) (fault : Fault) → RefusesRead library headers used read fault → IsPresent fault
-read_present library headers used (Ok forms) fault (inl refuses) = refuses_present (given library headers forms used) (libraries forms) fault refuses
-read_present library headers used (Ok forms) fault (inr (table, gives, is)) = subst Tells is (library_tells used library (first_form (libraries forms)))
-read_present library headers used (Err place) fault is = present_same fault (written.syntax_at place) is (λ e. cc)
+read_present : (library : Name) (headers : List Name) (compiled : Compiled) (read : Result (List Written) Place) (fault : Fault) → RefusesRead library headers compiled read fault → IsPresent fault
+read_present library headers compiled (Ok forms) fault (inl refuses) = refuses_present (given library headers forms (used_by compiled forms)) (libraries forms) fault refuses
+read_present library headers compiled (Ok forms) fault (inr (table, gives, is)) = subst Tells is (library_tells compiled.exports library (first_form (libraries forms)))
+read_present library headers compiled (Err place) fault is = present_same fault (written.syntax_at place) is (λ e. cc)
 
-modules_present : (known : Words) (library : Name) (sources : List Source) (used : List Exports) (fault : Fault) → RefusesModules known library sources used fault → IsPresent fault
-modules_present known library sources used fault (inl users) = users_present known (filter is_user sources) fault users
-modules_present known library sources used fault (inr (trees, users, refuses)) = read_present library (headers_of sources) used (written.forms_of trees) fault refuses
+modules_present : (known : Words) (library : Name) (sources : List Source) (compiled : Compiled) (fault : Fault) → RefusesModules known library sources compiled fault → IsPresent fault
+modules_present known library sources compiled fault (inl users) = users_present known (filter is_user sources) fault users
+modules_present known library sources compiled fault (inr (trees, users, refuses)) = read_present library (headers_of sources) compiled (written.forms_of trees) fault refuses
 
 doubled_tell : (imported : List Name) (before forms : List Written) → AllTell (doubled_behind imported before forms)
 doubled_tell imported before [] = tt
@@ -119,9 +127,9 @@ doubled_tell imported before (form ∷ forms) =
     let more = doubled_tell imported (before ++ form ∷ []) forms in
     cond_both (is_doubled imported before form) (redefined form ∷ rest) rest AllTell (λ t. ((λ e. cc), more)) (λ t. more)
 
-taken_tell : (library : Name) (headers : List Name) (used : List Exports) (read : Result (List Written) Place) (modules : LibraryModules) → GivesRead library headers used read modules → AllTell modules.doubled
-taken_tell library headers used (Ok forms) modules has = subst AllTell (sym has.doubled) (doubled_tell (imported_in used (first_form (libraries forms))) [] forms)
-taken_tell library headers used (Err place) modules has = absurd has
+taken_tell : (library : Name) (headers : List Name) (compiled : Compiled) (read : Result (List Written) Place) (modules : LibraryModules) → GivesRead library headers compiled read modules → AllTell modules.doubled
+taken_tell library headers compiled (Ok forms) modules has = subst AllTell (sym has.doubled) (doubled_tell (imported_in (used_by compiled forms) (first_form (libraries forms))) [] forms)
+taken_tell library headers compiled (Err place) modules has = absurd has
 
 -- ---- forms
 
@@ -141,6 +149,9 @@ pieces_tell (Some fault) other f o = f
 refused_tell : (pieces : List Piece) → Tells (first_refused pieces)
 refused_tell [] = tt
 refused_tell (piece ∷ pieces) = pieces_tell (fault_in (place_of piece) (reading piece.fragments)) (first_refused pieces) (told_tells (place_of piece) (parsed piece.fragments)) (refused_tell pieces)
+
+over_present : (pieces : List Piece) (fault : Fault) → HaveTooMany pieces fault → IsPresent fault
+over_present pieces fault (number, piece, over, at, is) = present_same fault (too_many_tokens (place_of piece)) is (λ e. cc)
 
 -- ---- names
 
@@ -191,21 +202,29 @@ IsOpen (refused fault) = IsPresent fault
 refused_open : (verdict : Verdict) (fault : Fault) → verdict ≡ refused fault → IsPresent fault → IsOpen verdict
 refused_open verdict fault is present = subst IsOpen (sym is) present
 
-by_open : (told : Option Fault) (library : LibraryRow) → Tells told → IsOpen (verdict_by told library)
-by_open None library tells = tt
-by_open (Some fault) library tells = tells
+accepted_open : (verdict : Verdict) (read : ReadLibrary) → verdict ≡ accepted read → IsOpen verdict
+accepted_open verdict read is = subst IsOpen (sym is) tt
+
+names_open : (library : List ℕ) (modules : LibraryModules) (forms : List Form) (r : Reading modules.table (place_by modules) forms) (first : Option Fault) (verdict : Verdict) → Tells first → JudgesNames library modules forms r first verdict
+    → IsOpen verdict
+names_open library modules forms r None verdict tells (read, reads, is) = accepted_open verdict read is
+names_open library modules forms r (Some fault) verdict tells is = refused_open verdict fault is tells
 
 forms_open : (library : List ℕ) (modules : LibraryModules) (forms : List Form) (verdict : Verdict) → AllTell modules.doubled → JudgesForms library modules forms verdict → IsOpen verdict
-forms_open library modules forms verdict taken (r, first, is_first, is) =
+forms_open library modules forms verdict taken (r, first, is_first, judged) =
     let ds = names.definitions r.modules forms in
     let early = all_tell (type_faults forms) (again_among [] ds) (types_tell forms) (again_tell [] ds) in
     let others = all_tell (modules.doubled ++ all_redefined words.items ds) (map undefined r.lacking) (all_tell modules.doubled (all_redefined words.items ds) taken (redefined_tell words.items ds [] ds)) (undefined_tell r.lacking) in
     let named = all_tell (form_faults r.out forms) ((modules.doubled ++ all_redefined words.items ds) ++ map undefined r.lacking) (forms_tell r.out r.meant.type forms) others in
-    subst IsOpen (sym is) (by_open first (library_from (own_heading library) r.out forms) (first_present _ _ (limits r.out forms) first early named (limits_tell r.out forms) is_first))
+    names_open library modules forms r first verdict (first_present _ _ (limits r.out forms) first early named (limits_tell r.out forms) is_first) judged
 
 read_open : (library : List ℕ) (modules : LibraryModules) (told : Option Fault) (forms : List Form) (verdict : Verdict) → Tells told → AllTell modules.doubled → JudgesRead library modules told forms verdict → IsOpen verdict
 read_open library modules None forms verdict tells taken judged = forms_open library modules forms verdict taken judged
 read_open library modules (Some fault) forms verdict tells taken is = refused_open verdict fault is tells
+
+pieces_open : (library : List ℕ) (modules : LibraryModules) (pieces : List Piece) (verdict : Verdict) → AllTell modules.doubled → JudgesPieces library modules pieces verdict → IsOpen verdict
+pieces_open library modules pieces verdict taken (inl (fault, over, is)) = refused_open verdict fault is (over_present pieces fault over)
+pieces_open library modules pieces verdict taken (inr (within, judged)) = read_open library modules (first_refused pieces) (forms_of pieces) verdict (refused_tell pieces) taken judged
 
 grouped_present : (files : List (List Token)) (fault : Fault) → AreGrouped words files (Err fault) → IsPresent fault
 grouped_present [] fault are = absurd are
@@ -214,21 +233,19 @@ grouped_present (tokens ∷ files) fault (inr (trees, grouped, are)) = grouped_p
 
 trees_open : (library : List ℕ) (modules : LibraryModules) (files : List (List Token)) (trees : Trees) (verdict : Verdict) → AllTell modules.doubled → AreGrouped words files trees → JudgesTrees library modules trees verdict → IsOpen verdict
 trees_open library modules files (Err fault) verdict taken grouped is = refused_open verdict fault is (grouped_present files fault grouped)
-trees_open library modules files (Ok trees) verdict taken grouped judged =
-    let pieces = flat_map pieces_of trees in
-    read_open library modules (first_refused pieces) (forms_of pieces) verdict (refused_tell pieces) taken judged
+trees_open library modules files (Ok trees) verdict taken grouped judged = pieces_open library modules (flat_map pieces_of trees) verdict taken judged
 
-sources_open : (library : List ℕ) (sources : List Source) (verdict : Verdict) → JudgesSources library sources verdict → IsOpen verdict
-sources_open library sources verdict (inl (fault, refuses, is)) = refused_open verdict fault is (modules_present words library sources built_in fault refuses)
-sources_open library sources verdict (inr (modules, (all, users, gives), (trees, grouped, judged))) =
-    trees_open library modules (map (form_tokens modules.names) sources) trees verdict (taken_tell library (headers_of sources) built_in (written.forms_of all) modules gives) grouped judged
+sources_open : (compiled : Compiled) (library : List ℕ) (sources : List Source) (verdict : Verdict) → JudgesSources compiled library sources verdict → IsOpen verdict
+sources_open compiled library sources verdict (inl (fault, refuses, is)) = refused_open verdict fault is (modules_present words library sources compiled fault refuses)
+sources_open compiled library sources verdict (inr (modules, (all, users, gives), (trees, grouped, judged))) =
+    trees_open library modules (map (form_tokens modules.names) sources) trees verdict (taken_tell library (headers_of sources) compiled (written.forms_of all) modules gives) grouped judged
 
-pub verdict_open : (library : List ℕ) (texts : List (List ℕ)) (verdict : Verdict) → IsVerdict library texts verdict → IsOpen verdict
-verdict_open library texts verdict (inl (fault, refuses, is)) = refused_open verdict fault is (texts_present texts fault refuses)
-verdict_open library texts verdict (inr (sources, gives, judged)) = sources_open library sources verdict judged
+pub verdict_open : (compiled : Compiled) (library : List ℕ) (texts : List (List ℕ)) (verdict : Verdict) → IsVerdict compiled library texts verdict → IsOpen verdict
+verdict_open compiled library texts verdict (inl (fault, refuses, is)) = refused_open verdict fault is (texts_present texts fault refuses)
+verdict_open compiled library texts verdict (inr (sources, gives, judged)) = sources_open compiled library sources verdict judged
 
 -- what a call gave that judges so
-pub judged_plain : (library : List ℕ) (texts : List (List ℕ)) (result : Result LibraryRow Refusal) → Judged (IsVerdict library texts) result → IfErr result IsPlain
-judged_plain library texts (Ok row) judged = tt
-judged_plain library texts (Err (refusals.Fault fault)) judged = verdict_open library texts (refused fault) judged
-judged_plain library texts (Err refusals.Memory) judged = tt
+pub judged_plain : (compiled : Compiled) (library : List ℕ) (texts : List (List ℕ)) (result : Result ReadLibrary Refusal) → Judged (IsVerdict compiled library texts) result → IfErr result IsPlain
+judged_plain compiled library texts (Ok read) judged = tt
+judged_plain compiled library texts (Err (refusals.Fault fault)) judged = verdict_open compiled library texts (refused fault) judged
+judged_plain compiled library texts (Err refusals.Memory) judged = tt

@@ -1,57 +1,56 @@
 -- What the source files of a library come to (own in the order of faults).
-use Rattle.std.specs.Prelude.{◌≡◌, ◌≢◌, ◌⊎◌, ℕ, List, [], ◌∷◌, map, flat_map, codes, Option}
-use Rattle.std.specs.Prelude.{Some, None, Result, Ok, Err}
+use Rattle.std.specs.Prelude.{◌≡◌, ◌≢◌, ◌⊎◌, ℕ, List, map, flat_map, Option, Some, None, Result}
+use Rattle.std.specs.Prelude.{Ok, Err}
 use Rattle.dy_base.specs.declared.kind.Kind.TheVariants.{NoFile}
-use Rattle.dy_base.specs.declared.exports.Exports.{Exports}
 use Rattle.dy_base.specs.declared.fault.Fault.{Fault}
 use Rattle.dy_base.specs.declared.fault.Refusal.{Refusal}
 use Rattle.dy_base.specs.declared.fault.Refusal.TheVariants as refusals
 use Rattle.dy_lexer.specs.declared.source.Source.{Source}
-use Rattle.dy_term.specs.declared.rows.LibraryRow.{LibraryRow}
-use Rattle.dy_prims.specs.Rows.{dylan_row, io_row}
-use Rattle.dy_built_in_exports.specs.Names.{exports_of}
+use Rattle.dy_views.specs.declared.compiled.Compiled.{Compiled}
 use Rattle.dy_library_rows.specs.Libraries.{Form}
-use Rattle.dy_assembly.specs.Libraries.{own_heading}
 use Rattle.dy_library_modules.specs.Texts.{RefusesTexts, GivesSources}
 use Rattle.dy_library_modules.specs.Words.{words}
 use Rattle.dy_library_modules.specs.Modules.{RefusesModules, GivesModules}
 use Rattle.dy_library_modules.specs.declared.own_modules.LibraryModules.{LibraryModules}
-use Rattle.dy_library_names.specs.Named.{Reading, IsFirstFault, library_from}
+use Rattle.dy_library_names.specs.Named.{Reading, IsFirstFault}
+use Rattle.dy_verdict.specs.declared.library.ReadLibrary.{ReadLibrary}
 use Rattle.dy_verdict.specs.Pieces.{pieces_of, Piece}
 use Rattle.dy_verdict.specs.Forms.{first_refused, forms_of}
 use Rattle.dy_verdict.specs.Trees.{Trees, form_tokens, AreGrouped}
+use Rattle.dy_verdict.specs.Limits.{AreWithin, HaveTooMany}
+use Rattle.dy_verdict.specs.Libraries.{place_by, IsReadAs}
 
 -- the first fault, or the library
 pub data Verdict : Type 0 where
   refused : (fault : Fault) → Verdict
-  accepted : (library : LibraryRow) → Verdict
-
-abbrev pub verdict_by : Option Fault → LibraryRow → Verdict
-verdict_by (Some fault) library = refused fault
-verdict_by None library = accepted library
-
--- what the libraries that are built in export, which stand in front of a program's own
-abbrev pub built_in : List Exports
-built_in = exports_of 0 (codes "dylan") (codes "dylan") dylan_row
-    ∷ exports_of 1 (codes "io") (codes "format-out") io_row ∷ []
+  accepted : (library : ReadLibrary) → Verdict
 
 module _ (library : List ℕ) where
   -- the first fault of the forms' names or sizes, else the library that they are
+  abbrev pub JudgesNames : (modules : LibraryModules) (forms : List Form)
+      → Reading modules.table (place_by modules) forms → Option Fault → Verdict → Type 0
+  JudgesNames modules forms r (Some fault) verdict = verdict ≡ refused fault
+  JudgesNames modules forms r None verdict = (read : ReadLibrary)
+      × IsReadAs library modules forms r read × (verdict ≡ accepted read)
+
+  -- the same of forms whose names are still to be read
   abbrev pub JudgesForms : LibraryModules → List Form → Verdict → Type 0
   JudgesForms modules forms verdict =
-      let heading = own_heading library in
-      (r : Reading modules.table heading.number forms) × (first : Option Fault)
-      × IsFirstFault modules.table heading.number words.items modules.doubled forms r first
-      × (verdict ≡ verdict_by first (library_from heading r.out forms))
+      (r : Reading modules.table (place_by modules) forms) × (first : Option Fault)
+      × IsFirstFault modules.table (place_by modules) words.items modules.doubled forms r first
+      × JudgesNames modules forms r first verdict
 
   -- the first form that is refused, else the verdict on the forms
   abbrev pub JudgesRead : LibraryModules → Option Fault → List Form → Verdict → Type 0
   JudgesRead modules (Some fault) forms verdict = verdict ≡ refused fault
   JudgesRead modules None forms verdict = JudgesForms modules forms verdict
 
+  -- the first form with which they have too many tokens, else the verdict on what they are read as
   abbrev pub JudgesPieces : LibraryModules → List Piece → Verdict → Type 0
   JudgesPieces modules pieces verdict =
-      JudgesRead modules (first_refused pieces) (forms_of pieces) verdict
+      ((fault : Fault) × HaveTooMany pieces fault × (verdict ≡ refused fault))
+      ⊎ (AreWithin pieces
+      × JudgesRead modules (first_refused pieces) (forms_of pieces) verdict)
 
   -- the first fault of the groups of files, else the verdict on their forms
   abbrev pub JudgesTrees : LibraryModules → Trees → Verdict → Type 0
@@ -63,23 +62,24 @@ module _ (library : List ℕ) where
       × AreGrouped words (map (form_tokens modules.names) sources) trees
       × JudgesTrees modules trees verdict
 
+module _ (compiled : Compiled) (library : List ℕ) where
   -- the first fault of the library's modules, else the verdict on the files of these modules
   abbrev pub JudgesSources : List Source → Verdict → Type 0
   JudgesSources sources verdict =
-      ((fault : Fault) × RefusesModules words library sources built_in fault
+      ((fault : Fault) × RefusesModules words library sources compiled fault
       × (verdict ≡ refused fault))
-      ⊎ ((modules : LibraryModules) × GivesModules words library sources built_in modules
-      × JudgesGroups modules sources verdict)
+      ⊎ ((modules : LibraryModules) × GivesModules words library sources compiled modules
+      × JudgesGroups library modules sources verdict)
 
-  -- What the files of a library come to: the first fault of their texts, else the verdict on what
-  -- they hold.
+  -- What the files of a library come to that sees those that were compiled before it: the first
+  -- fault of their texts, else the verdict on what they hold.
   abbrev pub IsVerdict : List (List ℕ) → Verdict → Type 0
   IsVerdict texts verdict =
       ((fault : Fault) × RefusesTexts texts fault × (verdict ≡ refused fault))
       ⊎ ((sources : List Source) × GivesSources texts sources × JudgesSources sources verdict)
 
 -- what a call gave is judged so; want of memory says nothing
-abbrev pub Judged : (Verdict → Type 0) → Result LibraryRow Refusal → Type 0
+abbrev pub Judged : (Verdict → Type 0) → Result ReadLibrary Refusal → Type 0
 Judged judges (Ok library) = judges (accepted library)
 Judged judges (Err (refusals.Fault fault)) = judges (refused fault)
 Judged judges (Err refusals.Memory) = Unit {0}

@@ -1,24 +1,33 @@
 -- What holds of the verdicts on libraries.
-use Rattle.std.specs.Prelude.{◌≡◌, ℕ, List}
-use Rattle.dy_term.specs.declared.rows.LibraryRow.{LibraryRow}
-use Rattle.dy_lowering_law.specs.Behaving.{Behaves}
-use Rattle.dy_lowering_whole.specs.valid.Scoped.{IsScoped}
-use Rattle.dy_lowering_whole.specs.Lowered.{IsLowered}
-use Rattle.dy_assembly.specs.Libraries.{program_with}
+use Rattle.std.specs.Prelude.{◌≡◌, ℕ, true, List, [], ◌∷◌, ◌++◌}
+use Rattle.dy_lowering_whole.specs.valid.Scoped.{is_library_scoped}
+use Rattle.dy_lowering_whole.specs.Lowered.{is_library_lowered}
+use Rattle.dy_views.specs.declared.compiled.Compiled.{Compiled}
+use Rattle.dy_views.specs.Views.{order_of, AreThere}
+use Rattle.dy_folded_names.specs.Folded.{ExportsAreLower}
+use Rattle.dy_verdict.specs.declared.library.ReadLibrary.{ReadLibrary}
 use Rattle.dy_verdict.specs.Verdicts.{Verdict, accepted, IsVerdict}
 
 -- The files of a library have one verdict.
 abbrev pub VerdictsAreOne : Type 0
-VerdictsAreOne = (library : List ℕ) (texts : List (List ℕ)) (a b : Verdict)
-    → IsVerdict library texts a → IsVerdict library texts b → a ≡ b
+VerdictsAreOne = (compiled : Compiled) (library : List ℕ) (texts : List (List ℕ)) (a b : Verdict)
+    → IsVerdict compiled library texts a → IsVerdict compiled library texts b → a ≡ b
 
--- The program of a library that files were judged to be is in scope and lowered.
+-- The rows of a library that files were judged to be are in scope and lowered.
 abbrev pub AcceptedAreLowered : Type 0
-AcceptedAreLowered = (library : List ℕ) (texts : List (List ℕ)) (row : LibraryRow)
-    → IsVerdict library texts (accepted row)
-    → IsScoped (program_with row) × IsLowered (program_with row)
+AcceptedAreLowered = (compiled : Compiled) (library : List ℕ) (texts : List (List ℕ))
+    (read : ReadLibrary) → IsVerdict compiled library texts (accepted read)
+    → (is_library_scoped read.row ≡ true) × (is_library_lowered read.row ≡ true)
 
--- With every fuel its code behaves as the program.
-abbrev pub AcceptedBehave : Type 0
-AcceptedBehave = (library : List ℕ) (texts : List (List ℕ)) (row : LibraryRow) (fuel : ℕ)
-    → IsVerdict library texts (accepted row) → Behaves (program_with row) fuel
+-- It uses some of those that were compiled, and its view is that of what it uses.
+abbrev pub AcceptedAreViewed : Type 0
+AcceptedAreViewed = (compiled : Compiled) (library : List ℕ) (texts : List (List ℕ))
+    (read : ReadLibrary) → IsVerdict compiled library texts (accepted read)
+    → AreThere compiled read.uses × (read.order ≡ order_of compiled read.uses)
+
+-- The names that it exports are in lower case, where those are that the others export.
+abbrev pub AcceptedAreLower : Type 0
+AcceptedAreLower = (compiled : Compiled) (library : List ℕ) (texts : List (List ℕ))
+    (read : ReadLibrary) → ExportsAreLower compiled.exports
+    → IsVerdict compiled library texts (accepted read)
+    → ExportsAreLower (compiled.exports ++ read.exports ∷ [])

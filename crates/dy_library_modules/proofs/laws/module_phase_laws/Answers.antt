@@ -32,7 +32,7 @@ pub returns-clause-modules_apart : goal.returns-clause-modules_apart
 returns-clause-modules_apart c = wholes.modules_apart
 
 pub returns-clause-one_modules : goal.returns-clause-one_modules
-returns-clause-one_modules c = λ tables words library sources used. wholes.one_modules words library sources used tables
+returns-clause-one_modules c = λ tables words library sources compiled. wholes.one_modules words library sources compiled tables
 
 pub returns-clause-one_modules_fault : goal.returns-clause-one_modules_fault
-returns-clause-one_modules_fault c = λ faults words library sources used. wholes.one_modules_fault words library sources used faults
+returns-clause-one_modules_fault c = λ faults words library sources compiled. wholes.one_modules_fault words library sources compiled faults

@@ -1,4 +1,4 @@
-use Rattle.std.proofs.Common.{◌≡◌, List, sym, ap, ◌∙◌}
+use Rattle.std.proofs.Common.{sym, ◌∙◌}
 use Rattle.dy_library_modules.proofs.LexedFiles.{first_kept, first_new, first_alone}
 use Rattle.dy_library_modules.proofs.lexing.first_with.Goals as goal
 
