@@ -6,7 +6,8 @@ usage: growth.py [COMMAND ..]
 Builds libraries of 64 KiB, 256 KiB, 1 MiB and 4 MiB, made in a temporary folder, by
 `COMMAND .. build LID`: of lines that print sums, and of methods and lines that call them, in one
 file of one module each; and of methods and calls of them in 64 files of 100 modules, each of which
-uses another. With no COMMAND it is the script banthruy beside this folder.
+uses another. And it builds 8, 16, 32 and 64 libraries of 100 modules, each of which uses another.
+With no COMMAND it is the script banthruy beside this folder.
 
 The status is 1 where a library is not built or prints something else, where time or memory grows
 by more than 1.3 for each doubling, beyond the doubling itself, or where the largest library takes
@@ -36,6 +37,9 @@ LIBRARY = "module: dylan-user\n\ndefine library growth use dylan; use io; end;\n
 HEADER = "module: growth\n\n"
 FILES = 63
 MODULES = 100
+# So many libraries, each of which defines so many methods.
+LIBRARIES = [8, 16, 32, 64]
+METHODS = 10 * FILES
 
 
 class Failed(Exception):
@@ -62,18 +66,19 @@ def methods():
 
 KINDS = {"lines that print sums": sums, "methods and calls of them": methods}
 IN_MODULES = "methods and calls of them in modules"
+IN_LIBRARIES = "libraries of 100 modules"
 
 
-def write_lid(folder, names):
-    with open_text(folder, "growth.lid") as file:
-        file.write("library: growth\nfiles: library\n" + "".join(f" {name}\n" for name in names))
+def write_lid(folder, names, library="growth"):
+    with open_text(folder, f"{library}.lid") as file:
+        file.write(f"library: {library}\nfiles: " + "\n ".join(names) + "\n")
 
 
 def write_one_module(folder, size, kind):
     """Writes a library of one module and one file of this size, and beside it what the program
     prints. Lines go out one by one: a child's peak counts from what this process holds when it
     starts the child."""
-    write_lid(folder, ["growth"])
+    write_lid(folder, ["library", "growth"])
     with open_text(folder, "library.dylan") as file:
         file.write(LIBRARY + "define module growth use dylan; use format-out; end;\n")
     left = size - len(HEADER)
@@ -122,7 +127,7 @@ def method_line(number, module, count):
 def write_modules(folder, size, kind):
     """Writes a library of many modules and files, of about this size in all."""
     count = max(size // 100, FILES)
-    write_lid(folder, [f"m{module}" for module in range(FILES)])
+    write_lid(folder, ["library"] + [f"m{module}" for module in range(FILES)])
     with open_text(folder, "library.dylan") as file:
         file.write(LIBRARY)
         for module in range(MODULES):
@@ -137,8 +142,56 @@ def write_modules(folder, size, kind):
                     printed.write(line_printed)
 
 
+def library_form(number, count):
+    """The form of a library: it sees one of those before it, and the last one uses all."""
+    clauses = ["use dylan;", "use io;"]
+    if number == count - 1:
+        clauses += [f"use l{other}, import: {{}};" for other in range(number)]
+    clauses += [f"use l{number // 2}, prefix: \"l-\";"] if number > 0 else []
+    names = ", ".join(f"m{module}" for module in range(MODULES))
+    return f"define library l{number} {' '.join(clauses)} export {names}; end;\n"
+
+
+def library_line(number):
+    """A line of the first module that prints what a method of the library seen gives, with what is
+    printed."""
+    return f'format-out("%d\\n", l-f0({number}));\n', f"{2 * number}\n"
+
+
+def write_one_library(folder, number, count, printed):
+    """Writes a library of many modules, and what it prints."""
+    modules = [f"l{number}-m{module}" for module in range(FILES)]
+    write_lid(folder, [f"l{number}-library"] + modules, f"l{number}")
+    with open_text(folder, f"l{number}-library.dylan") as file:
+        file.write("module: dylan-user\n\n" + library_form(number, count))
+        for module in range(MODULES):
+            form = module_form(module, METHODS)
+            seen = 'use dylan; use l-m0, prefix: "l-";' if number > 0 and module == 0 else "use dylan;"
+            file.write(form.replace("use dylan;", seen))
+    for module in range(FILES):
+        with open_text(folder, f"l{number}-m{module}.dylan") as file:
+            file.write(f"module: m{module}\n\n")
+            lines = [method_line(method, module, METHODS) for method in exported(module, METHODS)]
+            lines += [library_line(number)] if number > 0 and module == 0 else []
+            for line, line_printed in lines:
+                file.write(line)
+                printed.write(line_printed)
+
+
+def write_libraries(folder, count, kind):
+    """Writes so many libraries, of which the last one uses all."""
+    with open_text(folder, "printed") as printed:
+        for number in range(count):
+            write_one_library(folder, number, count, printed)
+    return [f"l{number}.lid" for number in range(count)]
+
+
 def write_library(folder, size, kind):
+    """Writes what is to be built, and gives the words for it."""
+    if kind == IN_LIBRARIES:
+        return write_libraries(folder, size, kind)
     (write_modules if kind == IN_MODULES else write_one_module)(folder, size, kind)
+    return ["growth.lid"]
 
 
 def size_of(folder):
@@ -166,12 +219,12 @@ class Measure:
         )
 
 
-def run(command, folder):
-    """Builds the library in the folder once: the measure, and the status."""
+def run(command, folder, lids):
+    """Builds the libraries in the folder once: the measure, and the status."""
     with open(os.path.join(folder, "out"), "wb") as out, open(os.path.join(folder, "err"), "wb") as err:
         begin = time.perf_counter()
         child = subprocess.Popen(
-            [*command, "build", "growth.lid"], cwd=folder, stdin=subprocess.DEVNULL, stdout=out, stderr=err
+            [*command, "build", *lids], cwd=folder, stdin=subprocess.DEVNULL, stdout=out, stderr=err
         )
         _, status, usage = os.wait4(child.pid, 0)
         elapsed = time.perf_counter() - begin
@@ -193,10 +246,10 @@ def check(folder, size, status):
 
 def measure(command, folder, size, kind, runs):
     """The best of several builds of a library of this size and kind."""
-    write_library(folder, size, kind)
+    lids = write_library(folder, size, kind)
     best = None
     for _ in range(runs):
-        one, status = run(command, folder)
+        one, status = run(command, folder, lids)
         check(folder, size, status)
         best = one if best is None else best.best(one)
     return best
@@ -214,14 +267,14 @@ def named(size):
 def table(command, folder, kind):
     """Prints a row for each size, and gives the bounds that are not kept."""
     # A library of one line shows what every run takes. The first run is not counted: it may build the program.
-    least = len(HEADER) + 80
+    least = 1 if kind == IN_LIBRARIES else len(HEADER) + 80
     measure(command, folder, least, kind, 1)
     base = measure(command, folder, least, kind, RUNS)
     print(f"{kind}; one line: {base.elapsed:.3f} s, {base.processor:.3f} s of the processor, peak {base.peak / MIB:.1f} MiB")
     print("| size | elapsed | processor | per byte | growth | peak memory | per byte | growth |")
     print("|---|---|---|---|---|---|---|---|")
     before, faults = None, []
-    for size in SIZES:
+    for size in LIBRARIES if kind == IN_LIBRARIES else SIZES:
         it = measure(command, folder, size, kind, RUNS)
         size = size_of(folder)
         taken = max(it.processor - base.processor, SHORTEST)
@@ -251,7 +304,7 @@ def main():
     try:
         with tempfile.TemporaryDirectory() as folder:
             faults = []
-            for kind in [*KINDS, IN_MODULES]:
+            for kind in [*KINDS, IN_MODULES, IN_LIBRARIES]:
                 with tempfile.TemporaryDirectory(dir=folder) as place:
                     faults += table(command, place, kind)
     except (Failed, OSError) as error:

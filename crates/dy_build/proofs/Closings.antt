@@ -1,33 +1,18 @@
 -- How the end of a run becomes the end of a command.
-use Rattle.std.proofs.Common.{◌≡◌, ◌≢◌, ◌<◌, ◌≤◌, ◌⊎◌, ℕ, List, [], ◌++◌, Option, Some, None, Result, Ok, Err, inl, inr, refl, sym, ap, subst, ◌∙◌, append-nil, arith}
-use Rattle.std.specs.Prelude.{OnOk, OnErr}
+use Rattle.std.proofs.Common.{◌≡◌, ◌≢◌, ◌<◌, ◌≤◌, ◌⊎◌, ℕ, List, [], ◌++◌, Option, inl, inr, refl, sym, ap, subst, append-nil, arith}
 use Rattle.std.specs.List.{concat}
 use Rattle.std.specs.Io.KnownBytes.{Appends}
-use Rattle.dy_io.specs.Files.{FileMap}
 use Rattle.dy_io.specs.Sinks.{AppendsFront}
-use Rattle.dy_term.specs.declared.rows.LibraryRow.{LibraryRow}
 use Rattle.dy_values.specs.declared.answer.RunEnd.{RunEnd}
 use Rattle.dy_values.specs.declared.answer.RunEnd.TheVariants as ends
 use Rattle.dy_outcome.specs.declared.state.State.{State}
 use Rattle.dy_outcome.specs.States.{Outcome, Gave, Exits, Ended, Spent}
-use Rattle.dy_meaning.specs.Programs.{program_meaning}
-use Rattle.dy_assembly.specs.Libraries.{program_with}
 use Rattle.dy_machine.specs.Ends.{IsWhole}
 use Rattle.dy_running.specs.Runs.{Tells, left_by}
-use Rattle.dy_sources.specs.declared.refused.Refused.{Refused}
-use Rattle.dy_sources.specs.Refusals.{refusal_line}
-use Rattle.dy_sources.specs.Judged.{IsAccepted}
-use Rattle.dy_sources.specs.Verdicts.{Verdict, refused, IsVerdict}
 use Rattle.dy_build.specs.Lines.{end_line, out_of_fuel_line}
-use Rattle.dy_build.specs.Words.{Build, usage_text}
-use Rattle.dy_build.specs.Outcome.{Report, run_report, Reports, refused_report, Builds, usage_report, IsCommand}
-use Rattle.dy_build.specs.Command.{PutsLine, Closes, Outputs, outputs, Nothing, SentFront, Finishes, RunsAs, BuildsAs, Done, TellsFault, TellsFaultOf, IsEnded, RunsAccepted, RunsAcceptedOf}
-use Rattle.dy_build.proofs.Fronts.{appends_front, appends_nothing, nothing_front, appends_twice, front_twice, front_more}
-
--- whether a put was done or not, a front was sent
-pub put_any_front : {A E : Type 0} (result : Result A E) (old new : Option (List ℕ)) (bytes : List ℕ) → OnOk result (Appends old new bytes) → OnErr result (AppendsFront old new bytes) → AppendsFront old new bytes
-put_any_front (Ok x) old new bytes sent front = appends_front old new bytes sent
-put_any_front (Err e) old new bytes sent front = front
+use Rattle.dy_build.specs.Outcome.{Report, run_report, Reports}
+use Rattle.dy_build.specs.Command.{PutsLine, Closes, Outputs, outputs, SentFront, Finishes, RunsAs, Done, IsEnded}
+use Rattle.dy_build.proofs.Fronts.{appends_front, appends_twice, front_twice, front_more}
 
 -- ---- a run and its last line
 
@@ -121,21 +106,7 @@ closed_runs (Ended text state) end result a b c d e told out err front line clos
 closed_runs (Spent state) end result a b c d e told out err front line closes =
     spent_runs end state result a b c d e told (record { out = out; err = err; out_front = front; err_front = line }) closes
 
--- where memory was short before anything ran
-pub short_runs : (outcome : Outcome) (a c : Option (List ℕ)) → Tells ends.NoMemory outcome → RunsAs outcome 6 (outputs a a c c)
-short_runs outcome a c told =
-    closed_runs outcome ends.NoMemory 6 a a c c c told (λ whole. absurd whole) (λ whole. absurd whole)
-    (nothing_front a (concat (left_by outcome).pieces)) (nothing_front c (concat (left_by outcome).lines)) (refl, refl)
-
--- ---- refusals, and fronts
-
--- nothing is printed but a line
-line_finishes : (status : ℕ) (line : List ℕ) (result : ℕ) (a b c : Option (List ℕ)) → PutsLine status line result b c → Finishes (record { status = status; out = []; err = line }) result (outputs a a b c)
-line_finishes status line result a b c (inl (is, sent)) = inl (is, record { out = appends_nothing a; err = sent })
-line_finishes status line result a b c (inr (cause, front)) = inr (cause, record { out = nothing_front a []; err = front })
-
-pub refused_builds : (fuel : ℕ) (why : Refused) (result : ℕ) (a b c : Option (List ℕ)) → PutsLine 2 (refusal_line why) result b c → BuildsAs fuel (refused why) result (outputs a a b c)
-refused_builds fuel why result a b c puts = (refused_report (refusal_line why), refl, line_finishes 2 (refusal_line why) result a b c puts)
+-- ---- what was sent, whole or in front
 
 -- where a sink or memory failed, a front of the report was sent
 pub fronts_of : (report : Report) (result : ℕ) (ends : Outputs) → Finishes report result ends → ((result ≡ 5) ⊎ (result ≡ 6)) → SentFront report ends
@@ -149,58 +120,16 @@ done_of report result ends (inl done) five six = done
 done_of report result ends (inr (inl e, fronts)) five six = absurd (five e)
 done_of report result ends (inr (inr e, fronts)) five six = absurd (six e)
 
--- ---- what a build comes to is what its words come to
-
-pub build_done : (held : FileMap) (words : Option Build) (command : Build) (result : ℕ) (ends : Outputs) → Some command ≡ words
-    → ((result ≡ 4) ⊎ (((result ≡ 6) × Nothing ends) ⊎ ((verdict : Verdict) × IsVerdict held command.lid verdict × BuildsAs command.fuel verdict result ends)))
-    → result ≢ 4 → result ≢ 5 → result ≢ 6 → (report : Report) × IsCommand words held report × Done report result ends
-build_done held words command result ends e (inl h) four five six = absurd (four h)
-build_done held words command result ends e (inr (inl (h, nothing))) four five six = absurd (six h)
-build_done held words command result ends e (inr (inr (verdict, is, (report, builds, finishes)))) four five six =
-    (report, subst (λ (w : Option Build). IsCommand w held report) e (verdict, is, builds), done_of report result ends finishes five six)
-
-pub build_front : (held : FileMap) (words : Option Build) (command : Build) (result : ℕ) (ends : Outputs) → Some command ≡ words
-    → ((result ≡ 4) ⊎ (((result ≡ 6) × Nothing ends) ⊎ ((verdict : Verdict) × IsVerdict held command.lid verdict × BuildsAs command.fuel verdict result ends)))
-    → ((result ≡ 5) ⊎ (result ≡ 6)) → Nothing ends ⊎ ((report : Report) × IsCommand words held report × SentFront report ends)
-build_front held words command result ends e (inl four) (inl five) = absurd (omega arith)
-build_front held words command result ends e (inl four) (inr six) = absurd (omega arith)
-build_front held words command result ends e (inr (inl (six, nothing))) which = inl nothing
-build_front held words command result ends e (inr (inr (verdict, is, (report, builds, finishes)))) which =
-    inr (report, subst (λ (w : Option Build). IsCommand w held report) e (verdict, is, builds), fronts_of report result ends finishes which)
-
-usage_finishes : (line : List ℕ) (result : ℕ) (a b c : Option (List ℕ)) → line ≡ usage_text → PutsLine 3 line result b c → Finishes usage_report result (outputs a a b c)
-usage_finishes line result a b c is puts = line_finishes 3 usage_text result a b c (subst (λ (l : List ℕ). PutsLine 3 l result b c) is puts)
-
-pub usage_done : (held : FileMap) (words : Option Build) (line : List ℕ) (result : ℕ) (a b c : Option (List ℕ)) → None ≡ words → line ≡ usage_text → PutsLine 3 line result b c
-    → result ≢ 5 → result ≢ 6 → (report : Report) × IsCommand words held report × Done report result (outputs a a b c)
-usage_done held words line result a b c e is puts five six =
-    (usage_report, subst (λ (w : Option Build). IsCommand w held usage_report) e refl, done_of usage_report result (outputs a a b c) (usage_finishes line result a b c is puts) five six)
-
-pub usage_front : (held : FileMap) (words : Option Build) (line : List ℕ) (result : ℕ) (a b c : Option (List ℕ)) → None ≡ words → line ≡ usage_text → PutsLine 3 line result b c
-    → ((result ≡ 5) ⊎ (result ≡ 6)) → Nothing (outputs a a b c) ⊎ ((report : Report) × IsCommand words held report × SentFront report (outputs a a b c))
-usage_front held words line result a b c e is puts which =
-    inr (usage_report, subst (λ (w : Option Build). IsCommand w held usage_report) e refl, fronts_of usage_report result (outputs a a b c) (usage_finishes line result a b c is puts) which)
-
--- the line of a file that failed is that of the words' LID file
-pub told_of : (words : Option Build) (command : Build) (contents : Option FileMap) (ends : Outputs) → Some command ≡ words → TellsFault contents command.lid ends → TellsFaultOf words contents ends
-told_of words command contents ends e told = subst (λ (w : Option Build). TellsFaultOf w contents ends) e told
-
--- ---- a run that ended is that of a library that was accepted
+-- ---- the statuses of a run
 
 -- no sink and no memory failed
-unfailed : (result : ℕ) → IsEnded result → (result ≢ 5) × (result ≢ 6)
+pub unfailed : (result : ℕ) → IsEnded result → (result ≢ 5) × (result ≢ 6)
 unfailed result (inl e) = (λ five. omega arith, λ six. omega arith)
 unfailed result (inr (inl e)) = (λ five. omega arith, λ six. omega arith)
 unfailed result (inr (inr e)) = (λ five. omega arith, λ six. omega arith)
 
-pub runs_accepted : (fuel : ℕ) (library : LibraryRow) (result : ℕ) (ends : Outputs) → IsAccepted library → RunsAs (program_meaning (program_with library) fuel) result ends → IsEnded result
-    → RunsAccepted fuel result ends
-runs_accepted fuel library result ends is (report, reports, finishes) ended =
-    let fails = unfailed result ended in
-    (library, is, report, reports, done_of report result ends finishes fails.0 fails.1)
-
 -- no other status is one of a run that ended
-between : {P : Type 0} (result : ℕ) → 1 < result → result < 7 → IsEnded result → P
+pub between : {P : Type 0} (result : ℕ) → 1 < result → result < 7 → IsEnded result → P
 between result above below (inl e) = absurd (omega arith)
 between result above below (inr (inl e)) = absurd (omega arith)
 between result above below (inr (inr e)) = absurd (omega arith)
@@ -209,18 +138,6 @@ pub line_unended : {P : Type 0} (status : ℕ) (line : List ℕ) (result : ℕ) 
 line_unended status line result old new above below (inl (is, sent)) ended = between result (omega arith) (omega arith) ended
 line_unended status line result old new above below (inr (inl is, front)) ended = between result (omega arith) (omega arith) ended
 line_unended status line result old new above below (inr (inr is, front)) ended = between result (omega arith) (omega arith) ended
-
-pub fault_unended : {P A B : Type 0} (result : ℕ) → ((result ≡ 4) × A) ⊎ ((result ≡ 6) × B) → IsEnded result → P
-fault_unended result (inl (is, line)) ended = between result (omega arith) (omega arith) ended
-fault_unended result (inr (is, same)) ended = between result (omega arith) (omega arith) ended
-
-pub memory_unended : {P : Type 0} → IsEnded 6 → P
-memory_unended ended = between 6 (omega arith) (omega arith) ended
-
-pub ran_of : (words : Option Build) (command : Build) (result : ℕ) (ends : Outputs) → Some command ≡ words → RunsAccepted command.fuel result ends → RunsAcceptedOf words result ends
-ran_of words command result ends e ran = subst (λ (w : Option Build). RunsAcceptedOf w result ends) e ran
-
--- ---- the statuses of a run
 
 report_status : (outcome : Outcome) (report : Report) → Reports outcome report → IsEnded report.status
 report_status (Gave values state) report is = inl (ap (λ (r : Report). r.status) is)
@@ -234,20 +151,18 @@ apart_from status result given above below is (inr (inl e)) also = absurd (omega
 apart_from status result given above below is (inr (inr e)) also = absurd (omega arith)
 
 -- no run has one of the statuses of a refusal, of the usage, and of a file that failed
-pub no_run : {P : Type 0} (status fuel : ℕ) (library : LibraryRow) (result : ℕ) (ends : Outputs) → 1 < status → status < 5 → RunsAs (program_meaning (program_with library) fuel) result ends
-    → result ≡ status → P
-no_run status fuel library result ends above below (report, reports, inl (is, sent)) also =
-    apart_from status result report.status above below is (report_status (program_meaning (program_with library) fuel) report reports) also
-no_run status fuel library result ends above below (report, reports, inr (inl is, fronts)) also = absurd (omega arith)
-no_run status fuel library result ends above below (report, reports, inr (inr is, fronts)) also = absurd (omega arith)
+pub no_run : {P : Type 0} (status : ℕ) (outcome : Outcome) (result : ℕ) (ends : Outputs) → 1 < status → status < 5 → RunsAs outcome result ends → result ≡ status → P
+no_run status outcome result ends above below (report, reports, inl (is, sent)) also =
+    apart_from status result report.status above below is (report_status outcome report reports) also
+no_run status outcome result ends above below (report, reports, inr (inl is, fronts)) also = absurd (omega arith)
+no_run status outcome result ends above below (report, reports, inr (inr is, fronts)) also = absurd (omega arith)
 
 at_most : (result given : ℕ) → result ≡ given → IsEnded given → result ≤ 7
 at_most result given is (inl e) = omega arith
 at_most result given is (inr (inl e)) = omega arith
 at_most result given is (inr (inr e)) = omega arith
 
-pub most_run : (fuel : ℕ) (library : LibraryRow) (result : ℕ) (ends : Outputs) → RunsAs (program_meaning (program_with library) fuel) result ends → result ≤ 7
-most_run fuel library result ends (report, reports, inl (is, sent)) =
-    at_most result report.status is (report_status (program_meaning (program_with library) fuel) report reports)
-most_run fuel library result ends (report, reports, inr (inl is, fronts)) = omega arith
-most_run fuel library result ends (report, reports, inr (inr is, fronts)) = omega arith
+pub most_run : (outcome : Outcome) (result : ℕ) (ends : Outputs) → RunsAs outcome result ends → result ≤ 7
+most_run outcome result ends (report, reports, inl (is, sent)) = at_most result report.status is (report_status outcome report reports)
+most_run outcome result ends (report, reports, inr (inl is, fronts)) = omega arith
+most_run outcome result ends (report, reports, inr (inr is, fronts)) = omega arith

@@ -1,28 +1,64 @@
 -- The definitions at examples, which they compute.
-use Rattle.std.proofs.Common.{◌≡◌, [], ◌∷◌, Some, None, refl}
+use Rattle.std.proofs.Common.{◌≡◌, ℕ, List, [], ◌∷◌, Option, Some, None, refl}
 use Rattle.std.specs.Prelude.{codes}
-use Rattle.dy_build.specs.Words.{build_with, build_of}
+use Rattle.dy_build.specs.Words.{Word, build, check, command_of}
 
-build : build_of (codes "build" ∷ codes "hello.lid" ∷ []) ≡ Some (build_with (codes "hello.lid") 10000000)
-build = refl
+no_main : Option Word
+no_main = None
 
-build_option : build_of (codes "build" ∷ codes "--help" ∷ []) ≡ None
-build_option = refl
+one : command_of (codes "build" ∷ codes "hello.lid" ∷ []) ≡ Some (build 10000000 None (codes "hello.lid" ∷ []))
+one = refl
 
-build_standard_input : build_of (codes "build" ∷ codes "-" ∷ []) ≡ Some (build_with (codes "-") 10000000)
-build_standard_input = refl
+several : command_of (codes "build" ∷ codes "a.lid" ∷ codes "b.lid" ∷ codes "a.lid" ∷ []) ≡ Some (build 10000000 None (codes "a.lid" ∷ codes "b.lid" ∷ codes "a.lid" ∷ []))
+several = refl
 
-build_fuel : build_of (codes "build" ∷ codes "--fuel" ∷ codes "0000000000026" ∷ codes "hello.lid" ∷ []) ≡ Some (build_with (codes "hello.lid") 26)
-build_fuel = refl
+no_lid : command_of (codes "build" ∷ []) ≡ None
+no_lid = refl
 
-build_most_fuel : build_of (codes "build" ∷ codes "--fuel" ∷ codes "1000000000000" ∷ codes "hello.lid" ∷ []) ≡ Some (build_with (codes "hello.lid") 1000000000000)
-build_most_fuel = refl
+no_word : command_of [] ≡ None
+no_word = refl
 
-build_too_much_fuel : build_of (codes "build" ∷ codes "--fuel" ∷ codes "1000000000001" ∷ codes "hello.lid" ∷ []) ≡ None
-build_too_much_fuel = refl
+help : command_of (codes "build" ∷ codes "--help" ∷ []) ≡ None
+help = refl
 
-build_signed_fuel : build_of (codes "build" ∷ codes "--fuel" ∷ codes "+5" ∷ codes "hello.lid" ∷ []) ≡ None
-build_signed_fuel = refl
+standard_input : command_of (codes "build" ∷ codes "-" ∷ []) ≡ Some (build 10000000 None (codes "-" ∷ []))
+standard_input = refl
 
-build_fuel_alone : build_of (codes "build" ∷ codes "--fuel" ∷ codes "5" ∷ []) ≡ None
-build_fuel_alone = refl
+fuel : command_of (codes "build" ∷ codes "--fuel" ∷ codes "0000000000026" ∷ codes "hello.lid" ∷ []) ≡ Some (build 26 None (codes "hello.lid" ∷ []))
+fuel = refl
+
+most_fuel : command_of (codes "build" ∷ codes "--fuel" ∷ codes "1000000000000" ∷ codes "hello.lid" ∷ []) ≡ Some (build 1000000000000 None (codes "hello.lid" ∷ []))
+most_fuel = refl
+
+too_much_fuel : command_of (codes "build" ∷ codes "--fuel" ∷ codes "1000000000001" ∷ codes "hello.lid" ∷ []) ≡ None
+too_much_fuel = refl
+
+signed_fuel : command_of (codes "build" ∷ codes "--fuel" ∷ codes "+5" ∷ codes "hello.lid" ∷ []) ≡ None
+signed_fuel = refl
+
+fuel_alone : command_of (codes "build" ∷ codes "--fuel" ∷ codes "5" ∷ []) ≡ None
+fuel_alone = refl
+
+fuel_twice : command_of (codes "build" ∷ codes "--fuel" ∷ codes "5" ∷ codes "--fuel" ∷ codes "5" ∷ codes "a.lid" ∷ []) ≡ None
+fuel_twice = refl
+
+fuel_behind : command_of (codes "build" ∷ codes "a.lid" ∷ codes "--fuel" ∷ codes "5" ∷ []) ≡ None
+fuel_behind = refl
+
+main : command_of (codes "build" ∷ codes "--main" ∷ codes "B" ∷ codes "a.lid" ∷ codes "b.lid" ∷ []) ≡ Some (build 10000000 (Some (codes "B")) (codes "a.lid" ∷ codes "b.lid" ∷ []))
+main = refl
+
+fuel_and_main : command_of (codes "build" ∷ codes "--fuel" ∷ codes "5" ∷ codes "--main" ∷ codes "" ∷ codes "a.lid" ∷ []) ≡ Some (build 5 (Some (codes "")) (codes "a.lid" ∷ []))
+fuel_and_main = refl
+
+main_and_fuel : command_of (codes "build" ∷ codes "--main" ∷ codes "a" ∷ codes "--fuel" ∷ codes "5" ∷ codes "a.lid" ∷ []) ≡ None
+main_and_fuel = refl
+
+main_with_a_hyphen : command_of (codes "build" ∷ codes "--main" ∷ codes "-" ∷ codes "a.lid" ∷ []) ≡ None
+main_with_a_hyphen = refl
+
+checked : command_of (codes "check" ∷ codes "a.lid" ∷ codes "-" ∷ []) ≡ Some (check (codes "a.lid" ∷ codes "-" ∷ []))
+checked = refl
+
+checked_with_fuel : command_of (codes "check" ∷ codes "--fuel" ∷ codes "5" ∷ codes "a.lid" ∷ []) ≡ None
+checked_with_fuel = refl

@@ -1,4 +1,4 @@
-//! Commands: a library is read, lowered and run.
+//! Commands: libraries are read, lowered and run.
 #![tactic(auto)]
 
 mod command;
@@ -6,5 +6,5 @@ mod laws;
 mod lines;
 mod words;
 
-pub use command::run_words;
+pub use command::{check, run_words};
 pub use laws::outcome_laws;

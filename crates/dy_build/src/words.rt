@@ -3,9 +3,10 @@
 ghost use Rattle.std.specs.Prelude.{◌≡◌, map, option_map, string_bytes};
 ghost use Rattle.std.specs.List.{list_all};
 ghost use Rattle.std.specs.Char.{is_ascii_digit};
-ghost use Rattle.dy_build.specs.Parts.{seen_build};
+ghost use Rattle.dy_build.specs.Parts.{seen_command};
 ghost use Rattle.dy_build.specs.Words.{begins_with_hyphen, is_file_word, is_fuel_word, fuel_of};
-ghost use Rattle.dy_build.specs.Words.{build_of, usage_text};
+ghost use Rattle.dy_build.specs.Words.{given, behind, fuel_given, is_main_given, are_lids};
+ghost use Rattle.dy_build.specs.Words.{build_of, check_of, command_of, usage_text};
 
 /// The fuel where the words name none.
 const DEFAULT_FUEL: u64 = 10_000_000;
@@ -55,37 +56,105 @@ fn fuel_of(word: &str) -> Option<u64>
     if fuel <= FUEL_LIMIT { Some(fuel) } else { None }
 }
 
-/// What `build` is to do.
-#[derive(Clone, Copy, Debug)]
-pub(crate) struct BuildCommand<'w> {
-    /// How many units of fuel the run has.
-    pub(crate) fuel: u64,
-    /// The name of the LID file.
-    pub(crate) lid: &'w str,
+/// The fuel that the word of the option names, or the default.
+fn fuel_given(number: Option<&str>) -> Option<u64>
+    ensures { result ≡ fuel_given (option_map (λ word. word.now) number.entry) }
+{
+    match number {
+        Some(number) => fuel_of(number),
+        None => Some(DEFAULT_FUEL),
+    }
 }
 
-/// The command `build LID` or `build --fuel N LID`.
-pub(crate) fn build_words(words: &Vec<String>) -> Option<BuildCommand<'_>>
-    ensures { option_map seen_build result ≡ build_of (map string_bytes words.now.items) }
+/// Whether the word of the option, if there is one, names a library.
+fn is_main_given(main: Option<&str>) -> bool
+    ensures { result ≡ is_main_given (option_map (λ word. word.now) main.entry) }
 {
-    match words.as_slice() {
-        [command, lid] if command.as_str() == "build" && is_file_word(lid.as_str()) => {
-            Some(BuildCommand {
-                fuel: DEFAULT_FUEL,
-                lid: lid.as_str(),
-            })
-        }
-        [command, option, fuel, lid]
-            if command.as_str() == "build"
-                && option.as_str() == "--fuel"
-                && is_file_word(lid.as_str()) => {
-            let fuel = fuel_of(fuel.as_str())?;
-            Some(BuildCommand {
-                fuel,
-                lid: lid.as_str(),
-            })
-        }
-        _ => None,
+    match main {
+        Some(name) => !begins_with_hyphen(name.as_bytes()),
+        None => true,
+    }
+}
+
+/// Whether all words name files.
+fn are_file_words(words: &[String]) -> bool
+    ensures { result ≡ list_all (λ word. is_file_word (string_bytes word)) words.now }
+{
+    words.iter().all(|word| is_file_word(word.as_str()))
+}
+
+/// Whether there are words, and all name files.
+fn are_lids(words: &[String]) -> bool
+    ensures { result ≡ are_lids (map string_bytes words.now) }
+{
+    !words.is_empty() && are_file_words(words)
+}
+
+/// The word of an option, where words begin with that, and the words behind.
+fn option_of<'w>(option: &str, words: &'w [String]) -> (Option<&'w str>, &'w [String])
+    ensures given { option_map (λ word. word.now) result.0
+        ≡ given option.now (map string_bytes words.now) }
+    ensures behind { map string_bytes result.1.now
+        ≡ behind option.now (map string_bytes words.now) }
+{
+    match words {
+        [first, word, others @ ..] if first.as_str() == option => (Some(word.as_str()), others),
+        _ => (None, words),
+    }
+}
+
+/// What is to be done.
+#[derive(Clone, Copy, Debug)]
+pub(crate) enum Command<'w> {
+    /// One of the libraries of LID files is run, with so many units of fuel: that of a name, or the
+    /// last.
+    Build {
+        fuel: u64,
+        main: Option<&'w str>,
+        lids: &'w [String],
+    },
+    /// The libraries of LID files are checked.
+    Check {
+        lids: &'w [String],
+    },
+}
+
+/// The words behind `build`.
+fn build_words(words: &[String]) -> Option<Command<'_>>
+    ensures { option_map seen_command result ≡ build_of (map string_bytes words.now) }
+{
+    let (number, words) = option_of("--fuel", words);
+    let (main, lids) = option_of("--main", words);
+    let fuel = fuel_given(number)?;
+    if is_main_given(main) && are_lids(lids) {
+        Some(Command::Build { fuel, main, lids })
+    } else {
+        None
+    }
+}
+
+/// The words behind `check`.
+fn check_words(lids: &[String]) -> Option<Command<'_>>
+    ensures { option_map seen_command result ≡ check_of (map string_bytes lids.now) }
+{
+    if are_lids(lids) {
+        Some(Command::Check { lids })
+    } else {
+        None
+    }
+}
+
+/// The command `build [--fuel N] [--main L] LID..` or `check LID..`.
+pub(crate) fn command_words(words: &Vec<String>) -> Option<Command<'_>>
+    ensures { option_map seen_command result ≡ command_of (map string_bytes words.now.items) }
+{
+    let (command, words) = words.as_slice().split_first()?;
+    if command.as_str() == "build" {
+        build_words(words)
+    } else if command.as_str() == "check" {
+        check_words(words)
+    } else {
+        None
     }
 }
 
@@ -93,5 +162,5 @@ pub(crate) fn build_words(words: &Vec<String>) -> Option<BuildCommand<'_>>
 pub(crate) fn usage() -> &'static [u8]
     ensures { result.now ≡ usage_text }
 {
-    b"usage: banthruy build [--fuel N] LID\n"
+    b"usage: banthruy build [--fuel N] [--main L] LID..\n       banthruy check LID..\n"
 }

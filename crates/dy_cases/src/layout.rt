@@ -1,9 +1,10 @@
 //! Commands as texts: what the second file of the library `hello` holds behind its header, and lines
 //! for what is otherwise.
 //!
-//! `@words` has the words, `@failing` the calls of files, of the output and of the error output that
-//! fail, `@file` the name of a file that begins in the next line, and behind `@text` the text goes
-//! on.
+//! `@words` has the words, `@words+` further ones behind them, `@failing` the calls of files, of the
+//! output and of the error output that fail, `@file` the name of a file that begins in the next line,
+//! `@libraries` how many libraries `l1`, `l2` and so on there are that hold nothing, whose LID files
+//! are further words, and behind `@text` the text goes on.
 
 use crate::commands::Command;
 use dy_io::MemFiles;
@@ -82,6 +83,26 @@ fn fail(command: &mut Command, line: &str) -> Result<(), AllocError> {
     command.files.fail_at(number_at(line, 0))
 }
 
+/// Adds a library that holds nothing, and the word that names it.
+fn add_library(alloc: Global, command: &mut Command, number: u64) -> Result<(), AllocError> {
+    let lid = format!(in alloc; "l{number}.lid")?;
+    let source = format!(in alloc; "l{number}.dylan")?;
+    let files = format!(in alloc; "library: l{number}\nfiles: l{number}\n")?;
+    let form = format!(in alloc; "module: dylan-user\n\ndefine library l{number} end;\n")?;
+    command.files.add(lid.as_str(), files.as_bytes())?;
+    command.files.add(source.as_str(), form.as_bytes())?;
+    command.words.push(lid)?;
+    Ok(())
+}
+
+/// Adds libraries that hold nothing, numbered from 1.
+fn add_libraries(alloc: Global, command: &mut Command, count: u64) -> Result<(), AllocError> {
+    for number in 0..count {
+        add_library(alloc, command, number + 1)?;
+    }
+    Ok(())
+}
+
 pub(crate) fn command_of(alloc: Global, text: &str) -> Result<Command, AllocError> {
     let mut command = plain(alloc)?;
     let mut lines = Lines::new(alloc, "hello.dylan", HEADER)?;
@@ -92,6 +113,10 @@ pub(crate) fn command_of(alloc: Global, text: &str) -> Result<Command, AllocErro
             lines.has_line = false;
         } else if let Some(words) = line.strip_prefix("@words ") {
             command.words = words_of(alloc, words)?;
+        } else if let Some(words) = line.strip_prefix("@words+ ") {
+            command.words.append(&mut words_of(alloc, words)?)?;
+        } else if let Some(count) = line.strip_prefix("@libraries ") {
+            add_libraries(alloc, &mut command, number_at(count, 0))?;
         } else if let Some(calls) = line.strip_prefix("@failing ") {
             fail(&mut command, calls)?;
         } else if let Some(name) = line.strip_prefix("@file ") {

@@ -26,6 +26,7 @@ impl Subject for Cases {
             "commands" => shown_command(alloc, text),
             "evaluate" => dy_cases_evaluate::show(alloc, text),
             "forms" => dy_cases_forms::show(alloc, name, text),
+            "limits" => dy_cases_limits::show(alloc, text),
             "machine" => shown_run(alloc, text),
             "module_names" => dy_cases_module_names::show(alloc, text),
             "modules" => dy_cases_modules::show(alloc, text),

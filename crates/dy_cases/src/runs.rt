@@ -1,9 +1,6 @@
 //! What is shown of the runs of a program.
 
-ghost use Rattle.std.specs.Prelude.{◌<◌, ◌^◌, length};
-
-use crate::programs::{Seen, run_both};
-use dy_base::Refusal;
+use crate::programs::{Seen, Trouble, run_both};
 use dy_cases_runs::add_run;
 use dy_values::RunEnd;
 use std::alloc::{AllocError, Global};
@@ -21,9 +18,7 @@ fn shown(alloc: Global, fuel: u64, seen: &Seen) -> Result<String, AllocError> {
 /// The run with the fewest units that suffice, and the one with one unit less; where the most that
 /// are tried do not suffice, the run with these. A run on which the machine and the evaluator
 /// differ is shown alone.
-fn shown_runs(alloc: Global, source: &str) -> Result<String, Refusal>
-    requires { length source.now < 2 ^ 31 }
-{
+fn shown_runs(alloc: Global, source: &str) -> Result<String, Trouble> {
     let mut before = String::new(alloc);
     for fuel in 0..MOST + 1 {
         let (machine, plain) = run_both(alloc, source, fuel)?;
@@ -47,12 +42,10 @@ fn shown_runs(alloc: Global, source: &str) -> Result<String, Refusal>
 }
 
 /// What is shown of the program of a text, or that it is refused.
-pub(crate) fn shown_run(alloc: Global, source: &str) -> Result<String, AllocError>
-    requires { length source.now < 2 ^ 31 }
-{
+pub(crate) fn shown_run(alloc: Global, source: &str) -> Result<String, AllocError> {
     match shown_runs(alloc, source) {
         Ok(text) => Ok(text),
-        Err(Refusal::Fault(_)) => String::from_str(alloc, "refused"),
-        Err(Refusal::Memory) => Err(AllocError),
+        Err(Trouble::Refused) => String::from_str(alloc, "refused"),
+        Err(Trouble::Memory) => Err(AllocError),
     }
 }

@@ -44,7 +44,7 @@ pub(crate) fn table_of(
     let TakenNames {
         library: own,
         modules,
-    } = redefined(alloc, &library, &forms, &used)?;
+    } = redefined(alloc, &library, &forms, &used, used.as_slice())?;
     match own {
         Some(fault) => Err(Refusal::Fault(fault)),
         None => Ok((table, modules)),

@@ -1,5 +1,5 @@
 use Rattle.std.proofs.Common.{inl, refl}
-use Rattle.dy_build.proofs.Closings.{put_any_front}
+use Rattle.dy_build.proofs.Halts.{put_any_front}
 use Rattle.dy_build.proofs.command.report_fault.Goals as goal
 
 pub returns-in-Ok-clause-line : goal.returns-in-Ok-clause-line

@@ -1,0 +1,4 @@
+library: measures
+files: measures-library
+ sums
+ extremes

@@ -1,0 +1,3 @@
+library: reports
+files: reports-library
+ reports
