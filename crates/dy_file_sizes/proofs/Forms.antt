@@ -1,5 +1,5 @@
 -- The draft of a form is not much larger than the fragments that it was read from, by induction over derivations.
-use Rattle.std.proofs.Common.{◌≡◌, ℕ, ◌+◌, ◌*◌, ◌≤◌, suc, codes, Bool, true, false, List, [], ◌∷◌, ◌++◌, length, map, Option, Some, None, ap, ◌∙◌, arith}
+use Rattle.std.proofs.Common.{◌≡◌, ℕ, ◌+◌, ◌*◌, ◌<◌, ◌≤◌, suc, codes, Bool, true, false, List, [], ◌∷◌, ◌++◌, length, map, Option, Some, None, ap, ◌∙◌, arith}
 use Rattle.dy_tree.specs.Fragments.{SeenFragment, one, group, row}
 use Rattle.dy_tree.specs.declared.splitters.Splitting.{Splitting}
 use Rattle.dy_tree.specs.declared.splitters.Splitting.TheVariants as splittings
@@ -327,7 +327,7 @@ constant_small (one_target variable) tree = omega (arith, type_small variable (c
 constant_small (several variables rest) tree = initial_small true (several variables rest) (core_of tree)
 
 -- forms
-pub drafts_small : (form : FormTree) (fragments : List SeenFragment) → IsForm form fragments → draft_size (draft_of form) ≤ T fragments
+pub drafts_small : (form : FormTree) (fragments : List SeenFragment) → IsForm form fragments → draft_size (draft_of form) < T fragments
 drafts_small form fragments (forms.by_expression tree all h) = omega (arith, (small splittings.Nothing (expression tree) all h).0)
 drafts_small form fragments (by_class define closer word token adjectives superclasses slots inner left within right after is parts class suits named round names h) =
     omega (arith, row_tokens inner, ap tokens_of parts, join_tokens (map one adjectives) (one word ∷ one token ∷ group left within right ∷ after), slots_small slots after h)
@@ -339,5 +339,5 @@ drafts_small form fragments (by_constant define word equals target assigned befo
     omega (arith, ap tokens_of parts, join_tokens before (one equals ∷ after), target_counts target before t, (small splittings.Nothing (expression assigned) after h).0, constant_small target assigned)
 drafts_small form fragments (by_variable define word equals target assigned before after all parts defines variable is t h) =
     omega (arith, ap tokens_of parts, join_tokens before (one equals ∷ after), target_counts target before t, (small splittings.Nothing (expression assigned) after h).0, initial_small false target (core_of assigned))
-drafts_small form fragments (by_generic define word token adjectives found results left within right given all parts defines generic suits named round no_default h k) = omega arith
+drafts_small form fragments (by_generic define word token adjectives found results left within right given all parts defines generic suits named round no_default h k) = omega (arith, ap tokens_of parts)
 drafts_small form fragments (by_domain define adjective word token left within right types defines sealed domain named round h) = omega arith

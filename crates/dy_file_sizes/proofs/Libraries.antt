@@ -27,7 +27,7 @@ use Rattle.dy_file_sizes.proofs.Forms.{drafts_small}
 use Rattle.dy_file_sizes.proofs.Parts.{every_join, has_small, rows_each}
 use Rattle.dy_file_sizes.proofs.Rows.{join_rows, draft_small, library_nodes}
 
-abbrev sizes : List CoreDraft → ℕ
+abbrev pub sizes : List CoreDraft → ℕ
 sizes [] = 0
 sizes (draft ∷ drafts) = draft_size draft + sizes drafts
 
@@ -55,7 +55,7 @@ all_small : (files : List File) → AreRead files → sizes (map draft_of (forms
 all_small [] read = omega arith
 all_small (file ∷ files) read = omega (arith, join_sizes file.forms (forms_of files), file_small file read.0, all_small files read.1)
 
-rows_small : (out : Outside) (forms : List Form) → nodes_of_rows (rows_of out forms) ≤ sizes (map (λ (form : Form). form.1) forms)
+pub rows_small : (out : Outside) (forms : List Form) → nodes_of_rows (rows_of out forms) ≤ sizes (map (λ (form : Form). form.1) forms)
 rows_small out [] = omega arith
 rows_small out (form ∷ forms) = omega (arith, join_rows (read_form out form.1).0 (rows_of out forms), draft_small out form.1 [] none, rows_small out forms)
 

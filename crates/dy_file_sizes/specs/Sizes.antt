@@ -39,7 +39,7 @@ GroupsAreSmall = (known : Words) (tokens : List Token) (fragments : List SeenFra
 
 abbrev pub DraftsAreSmall : Type 0
 DraftsAreSmall = (form : FormTree) (fragments : List SeenFragment) → IsForm form fragments
-    → draft_size (draft_of form) ≤ times * tokens_of fragments
+    → draft_size (draft_of form) < times * tokens_of fragments
 
 abbrev pub TermsAreSmall : Type 0
 TermsAreSmall = (out : Outside) (draft : Core) (locals : Locals) (p : Progress)

@@ -10,7 +10,7 @@ pub fn file_size_laws()
     ensures tokens { TokensAreFew }
     // Fragments have no more tokens than those that they were grouped from.
     ensures groups { GroupsAreSmall }
-    // The draft of a form has so many nodes for each token at most.
+    // The draft of a form has fewer than so many nodes for each token.
     ensures drafts { DraftsAreSmall }
     // A term has no more nodes than its draft.
     ensures terms { TermsAreSmall }

@@ -1,0 +1,4 @@
+pub mod Coded
+pub mod Pieces
+pub mod Counts
+pub mod Programs
