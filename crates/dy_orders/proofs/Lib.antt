@@ -1,0 +1,9 @@
+pub mod Alike
+pub mod Filing
+pub mod Fronts
+pub mod Judging
+pub mod Known
+pub mod Loading
+pub mod Names
+pub mod Next
+pub mod Ordering
