@@ -1,0 +1,10 @@
+pub mod Closing
+pub mod Ending
+pub mod Groups
+pub mod Joining
+pub mod Lists
+pub mod Opening
+pub mod Popping
+pub mod UnderWay
+pub mod Ways
+pub mod Weights
