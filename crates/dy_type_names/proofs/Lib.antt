@@ -1,0 +1,15 @@
+pub mod Agree
+pub mod Answering
+pub mod Evaluating
+pub mod Filling
+pub mod FirstFaults
+pub mod Ins
+pub mod Leading
+pub mod Listed
+pub mod NoTypes
+pub mod ReadParts
+pub mod Rows
+pub mod Setting
+pub mod Tables
+pub mod Telling
+pub mod Whole
